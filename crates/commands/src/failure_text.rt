@@ -32,7 +32,7 @@ fn wrong_text(why: Wrong) -> &'static str {
         Wrong::Cpu => "it names a CPU above 511, or above 31 in a stop",
         Wrong::Class => "csd_class without a csd_queue_cpu of this csd before it",
         Wrong::Records => "this is one csd more than 65536",
-        Wrong::Stops => "more stops are open than there are CPUs",
+        Wrong::Stops => "more than 64 stops are open",
         Wrong::Offline => "a CPU goes off: what it queues then is not recorded",
     }
 }

@@ -76,7 +76,7 @@ with_on event _ = One (Stop event)
 
 -- the roll: the stop is open, or the CPU whose bit was there is in it
 abbrev pub of_roll : Past → ℕ → Act → Seen → StepEvents
-of_roll p source act.Store s = One (Stop (stops.Open (task_of p.draft)))
+of_roll p source act.Store s = One (Stop (stops.Open s.cpu (task_of p.draft)))
 of_roll p source act.And s = if nat_lt s.cpu 32 && has (unwrap_or s.found 0) s.cpu then One (Stop (stops.Enter source)) else Nothing
 of_roll p source _ s = Nothing
 
@@ -102,9 +102,9 @@ of_todo p act.Sub = One (Stop (stops.Complete p.answer))
 of_todo p _ = Nothing
 
 -- the result of the note is collected
-abbrev pub of_result : Option Note → StepEvents
-of_result (Some (note.Result answer)) = One (Stop (stops.Collect answer))
-of_result _ = Nothing
+abbrev pub of_result : ℕ → Option Note → StepEvents
+of_result cpu (Some (note.Result answer)) = One (Stop (stops.Collect cpu answer))
+of_result cpu _ = Nothing
 
 -- a word of the slot of this source
 abbrev pub of_slot : Past → ℕ → Field → Seen → StepEvents
@@ -113,7 +113,7 @@ of_slot p source field.State s = of_state s.act s
 of_slot p source field.Ack s = of_ack p s.act s.note
 of_slot p source field.Arg s = of_arg s.note
 of_slot p source field.Todo s = of_todo p s.act
-of_slot p source field.Result s = of_result s.note
+of_slot p source field.Result s = of_result s.cpu s.note
 of_slot p source _ s = Nothing
 
 -- a compare-exchange of a key changes its count where it wins

@@ -34,25 +34,24 @@ call_text (calls.Unlock id) = codes "unlock " ++ decimal id
 call_text (calls.Begin id func info) = codes "begin " ++ decimal id ++ codes " " ++ decimal func ++ codes " " ++ decimal info
 call_text (calls.End id) = codes "end " ++ decimal id
 
--- `open KIND MASK ACTIVE FUNC ARG`
-abbrev pub open_text : Task → List ℕ
-open_text t =
-    codes "open " ++ kind_text t.kind ++ codes " " ++ mask_text t.mask ++ codes " " ++ mask_text t.active ++
-    codes " " ++ decimal t.func ++ codes " " ++ decimal t.arg
+-- `KIND MASK ACTIVE FUNC ARG`
+abbrev pub task_text : Task → List ℕ
+task_text t =
+    kind_text t.kind ++ codes " " ++ mask_text t.mask ++ codes " " ++ mask_text t.active ++ codes " " ++ decimal t.func ++ codes " " ++ decimal t.arg
 
--- an event of stops
+-- an event of stops, without the number of a stop that is its CPU's
 abbrev pub stop_text : StopEvent → List ℕ
 stop_text stops.Gate = codes "gate"
 stop_text stops.Ungate = codes "ungate"
-stop_text (stops.Open task) = open_text task
-stop_text (stops.Enter source) = codes "enter " ++ decimal source
+stop_text (stops.Open number task) = codes "open " ++ task_text task
+stop_text (stops.Enter number) = codes "enter " ++ decimal number
 stop_text (stops.Ack phase) = codes "ack " ++ decimal phase
 stop_text (stops.Raise phase) = codes "raise " ++ decimal phase
 stop_text stops.Off = codes "off"
 stop_text stops.On = codes "on"
 stop_text (stops.Run func arg) = codes "run " ++ decimal func ++ codes " " ++ decimal arg
 stop_text (stops.Complete answer) = codes "complete " ++ signed_decimal answer
-stop_text (stops.Collect answer) = codes "collect " ++ signed_decimal answer
+stop_text (stops.Collect number answer) = codes "collect " ++ signed_decimal answer
 
 -- a number and a name behind the name of an event
 abbrev pub named_text : List ℕ → ℕ → List ℕ → List ℕ
@@ -70,6 +69,15 @@ abbrev pub event_text : Event → List ℕ
 event_text (event.Call call) = call_text call
 event_text (event.Stop stop) = stop_text stop
 event_text (event.Label label) = label_text label
+
+-- an event as in version 3, where stops have numbers of their own
+abbrev pub numbered_text : Event → List ℕ
+numbered_text (event.Stop (stops.Open number task)) = codes "open " ++ decimal number ++ codes " " ++ task_text task
+numbered_text (event.Stop (stops.Collect number answer)) = codes "collect " ++ decimal number ++ codes " " ++ signed_decimal answer
+numbered_text e = event_text e
+
+abbrev pub numbered_line : ℕ → Event → List ℕ
+numbered_line cpu e = decimal cpu ++ codes " " ++ numbered_text e ++ 10 ∷ []
 
 -- the line of an event of a CPU
 abbrev pub line_text : ℕ → Event → List ℕ

@@ -38,7 +38,9 @@ fn of_roll(past: &Past, source: u32, seen: Seen) -> StepEvents
     ensures { result ≡ of_roll past.now source seen.act seen }
 {
     match seen.act {
-        Act::Store => StepEvents::One(Event::Stop(StopEvent::Open(task_of(&past.draft)))),
+        Act::Store => {
+            StepEvents::One(Event::Stop(StopEvent::Open(seen.cpu, task_of(&past.draft))))
+        }
         Act::And if has_bit(seen.found.unwrap_or(0), seen.cpu) => {
             StepEvents::One(Event::Stop(StopEvent::Enter(source)))
         }
@@ -97,10 +99,12 @@ fn of_todo(past: &Past, seen: Seen) -> StepEvents
 
 /// What a step on the result tells: that it is collected.
 fn of_result(seen: Seen) -> StepEvents
-    ensures { result ≡ of_result seen.note }
+    ensures { result ≡ of_result seen.cpu seen.note }
 {
     match seen.note {
-        Some(Note::Result(answer)) => StepEvents::One(Event::Stop(StopEvent::Collect(answer))),
+        Some(Note::Result(answer)) => {
+            StepEvents::One(Event::Stop(StopEvent::Collect(seen.cpu, answer)))
+        }
         _ => StepEvents::Nothing,
     }
 }

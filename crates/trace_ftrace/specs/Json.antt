@@ -61,24 +61,24 @@ flow_end x (Some f) = entry_text kind.FlowEnd x ++ between [] f.call.line (codes
 unfoldable pub cpus_end : ℕ → List ℕ
 cpus_end mask = mask_text mask ++ codes "\"}}"
 
--- the number of a stop, which is that of its source, and the line that tells it
-unfoldable pub opening_text : Told → List ℕ
-opening_text x = between [] x.cpu (codes ",\"args\":") ++ between (codes "{\"line\":") x.line (codes ",\"fn\":\"")
+-- the number of a stop, and the line that tells it
+unfoldable pub opening_text : Told → ℕ → List ℕ
+opening_text x number = between [] number (codes ",\"args\":") ++ between (codes "{\"line\":") x.line (codes ",\"fn\":\"")
 
 -- these, the function and the CPUs of a stop that is opened
-unfoldable pub task_text : Told → Task → List ℕ
-task_text x t = opening_text x ++ hex_text t.func (codes "\",\"cpus\":\"") ++ cpus_end t.mask
+unfoldable pub task_text : Told → ℕ → Task → List ℕ
+task_text x number t = opening_text x number ++ hex_text t.func (codes "\",\"cpus\":\"") ++ cpus_end t.mask
 
 -- a stop is opened, and its result is collected
-unfoldable pub open_text : Told → Task → List ℕ
-open_text x t = entry_text kind.Open x ++ between [] x.cpu (codes "\",\"id\":") ++ task_text x t
+unfoldable pub open_text : Told → ℕ → Task → List ℕ
+open_text x number t = entry_text kind.Open x ++ between [] number (codes "\",\"id\":") ++ task_text x number t
 
-unfoldable pub collect_text : Told → List ℕ
-collect_text x = entry_text kind.Collect x ++ between [] x.cpu (codes "\",\"id\":") ++ between [] x.cpu (codes "}")
+unfoldable pub collect_text : Told → ℕ → List ℕ
+collect_text x number = entry_text kind.Collect x ++ between [] number (codes "\",\"id\":") ++ between [] number (codes "}")
 
--- a CPU is in the stop of a source
+-- a CPU is in the stop of a number
 unfoldable pub enter_text : Told → ℕ → List ℕ
-enter_text x source = entry_text kind.Enter x ++ between [] source (codes "\",\"args\":{\"line\":") ++ between [] x.line (codes "}}")
+enter_text x number = entry_text kind.Enter x ++ between [] number (codes "\",\"args\":{\"line\":") ++ between [] x.line (codes "}}")
 
 -- it acknowledges a phase, and enters the function of the stop
 abbrev pub ack_text : Told → ℕ → List ℕ
@@ -95,12 +95,12 @@ call_text n x (calls.End id) = entry_text kind.End x
 call_text n x _ = []
 
 abbrev pub stop_text : Told → StopEvent → List ℕ
-stop_text x (stops.Open task) = open_text x task
-stop_text x (stops.Enter source) = enter_text x source
+stop_text x (stops.Open number task) = open_text x number task
+stop_text x (stops.Enter number) = enter_text x number
 stop_text x (stops.Ack phase) = ack_text x phase
 stop_text x (stops.Run func arg) = run_text x func
 stop_text x (stops.Complete answer) = entry_text kind.End x
-stop_text x (stops.Collect answer) = collect_text x
+stop_text x (stops.Collect number answer) = collect_text x number
 stop_text x _ = []
 
 abbrev pub event_text : NamesValue → Told → Event → List ℕ

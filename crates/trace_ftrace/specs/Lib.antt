@@ -22,6 +22,7 @@ pub mod PiecesView
 pub mod Placing
 pub mod PlacingView
 pub mod Print
+pub mod Readers
 pub mod Reading
 pub mod Records
 pub mod Signs

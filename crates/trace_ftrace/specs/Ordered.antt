@@ -27,7 +27,7 @@ calls_in_order = record { gate = true; interrupts = true; order = false; raises 
 
 -- the state before the first event
 unfoldable pub start_in_order : StateValue
-start_in_order = opening (record { cpus = 512; online = every_cpu; keys = 0; sites = 0; without = calls_in_order }) (words_of no_labels)
+start_in_order = opening (record { cpus = 512; online = every_cpu; keys = 0; sites = 0; is_third = true; without = calls_in_order }) (words_of no_labels)
 
 -- these steps are the events that lines tell, each once and each append where it can be, with takes between them
 pub record IsOrder (marks : List Mark) (told : List Told) (steps : List Step) : Type 0 where

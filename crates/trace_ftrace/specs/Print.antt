@@ -6,37 +6,38 @@ use Rattle.smp_words.specs.FirstFault.{◌>>=◌}
 use Rattle.trace_model.specs.declared.event.CallEvent.TheVariants as calls
 use Rattle.trace_model.specs.declared.event.Event.{Event}
 use Rattle.trace_model.specs.declared.event.Event.TheVariants as event
-use Rattle.trace_events.specs.Text.{line_text}
+use Rattle.trace_events.specs.Text.{numbered_line}
 use Rattle.trace_ftrace.specs.Kept.{KeptValue}
 use Rattle.trace_ftrace.specs.Telling.{TellingValue}
 use Rattle.trace_ftrace.specs.declared.told.Told.{Told}
 use Rattle.trace_ftrace.specs.declared.wrong.Refusal.{Refusal}
 use Rattle.trace_ftrace.specs.declared.wrong.Refusal.TheVariants as refusal
 
--- an event is of a CPU from 32 on, or queues a call for one
-abbrev pub is_for_high : Event → Bool
-is_for_high (event.Call (calls.Queue id to class func info)) = nat_le 32 to
-is_for_high _ = false
+-- an event is of stops, or it is of a CPU from 32 on, or queues a call for one
+abbrev pub needs_third : Event → Bool
+needs_third (event.Call (calls.Queue id to class func info)) = nat_le 32 to
+needs_third (event.Stop stop) = true
+needs_third _ = false
 
-abbrev pub is_high : Told → Bool
-is_high x = nat_le 32 x.cpu || is_for_high x.event
+abbrev pub is_third : Told → Bool
+is_third x = nat_le 32 x.cpu || needs_third x.event
 
-abbrev pub has_high : List Told → Bool
-has_high [] = false
-has_high (x ∷ xs) = is_high x || has_high xs
+abbrev pub has_third : List Told → Bool
+has_third [] = false
+has_third (x ∷ xs) = is_third x || has_third xs
 
--- what is in front of the events: all CPUs, and calls alone
+-- what is in front of the events: all CPUs, of version 2, or of version 3 where that is needed
 unfoldable pub head_text : Bool → List ℕ
 head_text false = codes "smp 2 trace\ncpus 32 0-31\nwithout gate interrupts order raises switches unlocks\n"
 head_text true = codes "smp 3 trace\ncpus 512 0-511\nwithout gate interrupts order raises switches unlocks\n"
 
 -- an event behind the number of the line that tells it
 unfoldable pub event_lines : Told → List ℕ
-event_lines x = codes "# line " ++ decimal x.line ++ 10 ∷ [] ++ line_text x.cpu x.event
+event_lines x = codes "# line " ++ decimal x.line ++ 10 ∷ [] ++ numbered_line x.cpu x.event
 
 -- the trace of events
 unfoldable pub trace_text : List Told → List ℕ
-trace_text told = head_text (has_high told) ++ flat_map event_lines told
+trace_text told = head_text (has_third told) ++ flat_map event_lines told
 
 -- it has more lines or bytes than a trace may have
 abbrev pub is_long : ℕ → ℕ → Bool

@@ -1,11 +1,11 @@
 -- The events of stops that marks tell.
-use Rattle.std.specs.Prelude.{ℕ, ℤ, Bool, true, false, if◌then◌else◌, List, [], ◌∷◌, ◌++◌, slice_index_or, slice_set, remove, min}
+use Rattle.std.specs.Prelude.{ℕ, ℤ, Bool, true, false, if◌then◌else◌, List, [], ◌∷◌, ◌++◌, slice_index_or, slice_set, remove}
 use Rattle.std.specs.Prelude.{Option, Some, None, is_some, Result, Ok, Err}
 use Rattle.trace_model.specs.declared.event.Event.TheVariants as event
 use Rattle.trace_model.specs.declared.event.StopEvent.{StopEvent}
 use Rattle.trace_model.specs.declared.event.StopEvent.TheVariants as stops
 use Rattle.trace_model.specs.declared.stop.Task.{Task}
-use Rattle.trace_ftrace.specs.Stops.{found_from, free_source, plan_of}
+use Rattle.trace_ftrace.specs.Stops.{found_from, free_number, plan_of}
 use Rattle.trace_ftrace.specs.Telling.{TellingValue, with_event}
 use Rattle.trace_ftrace.specs.declared.kept.Mark.{Mark}
 use Rattle.trace_ftrace.specs.declared.kept.Stamp.{Stamp}
@@ -27,17 +27,18 @@ abbrev pub task_of : Plan → Task
 task_of p = record { kind = p.kind; mask = p.mask; active = p.active; func = p.work.func; arg = p.work.arg }
 
 -- with an event of stops
-abbrev pub with_stop : Stamp → ℕ → StopEvent → TellingValue → TellingValue
-with_stop at cpu e t = with_event at cpu (event.Stop e) t
+abbrev pub with_stop : Stamp → StopEvent → TellingValue → TellingValue
+with_stop at e t = with_event at (event.Stop e) t
 
--- a stop is opened, as that of the least CPU that is the source of none
+-- a stop is opened, with the least number that none has
 abbrev pub opened_as : Stamp → Plan → Option ℕ → TellingValue → Result TellingValue Refusal
 opened_as at p None t = Err (refusal.Wrong at.line wrong.Stops)
-opened_as at p (Some source) t =
-    Ok (with_stop at source (stops.Open (task_of p)) (record t { stops = t.stops ++ record { source = source; plan = p; has_begun = false } ∷ [] }))
+opened_as at p (Some number) t =
+    Ok (with_stop at (stops.Open number (task_of p))
+    (record t { stops = t.stops ++ record { number = number; plan = p; has_begun = false } ∷ [] }))
 
 unfoldable pub opened : Stamp → Plan → TellingValue → Result TellingValue Refusal
-opened at p t = opened_as at p (free_source (min t.cpus 32) t.stops) t
+opened at p t = opened_as at p (free_number t.stops) t
 
 -- a task opens a rendezvous of many CPUs while it waits for a stop
 abbrev pub waits_in : ℕ → List OpenStop → Bool
@@ -62,8 +63,8 @@ known_as d s = record s { plan = record s.plan { ident = Some d } }
 abbrev pub entered_at : Stamp → ℕ → Option Found → TellingValue → TellingValue
 entered_at at d None t = t
 entered_at at d (Some f) t =
-    with_stop at at.cpu (stops.Enter f.stop.source)
-    (record t { stops = slice_set t.stops f.place (known_as d f.stop); inside = slice_set t.inside at.cpu (Some f.stop.source) })
+    with_stop at (stops.Enter f.stop.number)
+    (record t { stops = slice_set t.stops f.place (known_as d f.stop); inside = slice_set t.inside at.cpu (Some f.stop.number) })
 
 unfoldable pub entered : Stamp → ℕ → ℕ → TellingValue → Result TellingValue Refusal
 entered at d func t = Ok (entered_at at d (found_from 0 (wanted.Entered at.cpu d func) t.stops) t)
@@ -71,7 +72,7 @@ entered at d func t = Ok (entered_at at d (found_from 0 (wanted.Entered at.cpu d
 -- an event of a CPU that is in a rendezvous
 abbrev pub told_in : Option ℕ → Stamp → StopEvent → TellingValue → TellingValue
 told_in None at e t = t
-told_in (Some source) at e t = with_stop at at.cpu e t
+told_in (Some number) at e t = with_stop at e t
 
 abbrev pub inside_at : Stamp → StopEvent → TellingValue → TellingValue
 inside_at at e t = told_in (slice_index_or t.inside at.cpu None) at e t
@@ -82,7 +83,7 @@ inside_told at e t = Ok (inside_at at e t)
 -- a CPU leaves it
 abbrev pub left_at : Stamp → ℤ → Option ℕ → TellingValue → TellingValue
 left_at at v None t = t
-left_at at v (Some source) t = with_stop at at.cpu (stops.Complete v) (record t { inside = slice_set t.inside at.cpu None })
+left_at at v (Some number) t = with_stop at (stops.Complete v) (record t { inside = slice_set t.inside at.cpu None })
 
 unfoldable pub left : Stamp → ℤ → TellingValue → Result TellingValue Refusal
 left at v t = Ok (left_at at v (slice_index_or t.inside at.cpu None) t)
@@ -94,15 +95,15 @@ begun_as s = record s { has_begun = true }
 abbrev pub started_at : Stamp → Work → Option Found → TellingValue → TellingValue
 started_at at work None t = t
 started_at at work (Some f) t =
-    with_stop at at.cpu (stops.Run work.func work.arg) (with_stop at at.cpu (stops.Enter f.stop.source)
-    (record t { stops = slice_set t.stops f.place (begun_as f.stop); alone = slice_set t.alone at.cpu (Some f.stop.source) }))
+    with_stop at (stops.Run work.func work.arg) (with_stop at (stops.Enter f.stop.number)
+    (record t { stops = slice_set t.stops f.place (begun_as f.stop); alone = slice_set t.alone at.cpu (Some f.stop.number) }))
 
 unfoldable pub started : Stamp → Work → TellingValue → Result TellingValue Refusal
 started at work t = Ok (started_at at work (found_from 0 (wanted.Begun at.cpu work) t.stops) t)
 
 -- a stop has its answer, and is no longer open
 unfoldable pub collected : Stamp → Found → ℤ → TellingValue → TellingValue
-collected at f v t = with_stop at f.stop.source (stops.Collect v) (record t { stops = remove t.stops f.place })
+collected at f v t = with_stop at (stops.Collect f.stop.number v) (record t { stops = remove t.stops f.place })
 
 -- the same where nobody waits for it
 abbrev pub collected_alone : Stamp → Option ℕ → Found → ℤ → TellingValue → TellingValue
@@ -114,13 +115,13 @@ unwaited_at at None v t = t
 unwaited_at at (Some f) v t = collected_alone at f.stop.plan.task f v t
 
 unfoldable pub unwaited : Stamp → ℕ → ℤ → TellingValue → TellingValue
-unwaited at source v t = unwaited_at at (found_from 0 (wanted.Of source) t.stops) v t
+unwaited at number v t = unwaited_at at (found_from 0 (wanted.Of number) t.stops) v t
 
 -- the work that a CPU began is done
 abbrev pub done_at : Stamp → ℤ → Option ℕ → TellingValue → TellingValue
 done_at at v None t = t
-done_at at v (Some source) t =
-    unwaited at source v (with_stop at at.cpu (stops.Complete v) (record t { alone = slice_set t.alone at.cpu None }))
+done_at at v (Some number) t =
+    unwaited at number v (with_stop at (stops.Complete v) (record t { alone = slice_set t.alone at.cpu None }))
 
 unfoldable pub done : Stamp → ℤ → TellingValue → TellingValue
 done at v t = done_at at v (slice_index_or t.alone at.cpu None) t

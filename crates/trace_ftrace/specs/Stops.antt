@@ -118,16 +118,16 @@ is_wanted (wanted.Entered cpu d func) s = is_kind s.plan.kind kinds.Multi && is_
 is_wanted (wanted.Begun cpu work) s =
     is_kind s.plan.kind kinds.One && has s.plan.mask cpu && s.plan.work.func == work.func && s.plan.work.arg == work.arg && not s.has_begun
 is_wanted (wanted.OfTask task) s = is_task s.plan.task task
-is_wanted (wanted.Of source) s = s.source == source
+is_wanted (wanted.Of number) s = s.number == number
 
 -- the first of these that is looked for, where the first of all has this place
 abbrev pub found_from : ℕ → Wanted → List OpenStop → Option Found
 found_from i w [] = None
 found_from i w (s ∷ ss) = if is_wanted w s then Some (record { place = i; stop = s }) else found_from (i + 1) w ss
 
--- the least of this number of CPUs that is the source of none of these
+-- the least of the 64 numbers that is that of none of these
 abbrev pub is_free : List OpenStop → ℕ → Bool
-is_free stops source = is_none (found_from 0 (wanted.Of source) stops)
+is_free stops number = is_none (found_from 0 (wanted.Of number) stops)
 
-abbrev pub free_source : ℕ → List OpenStop → Option ℕ
-free_source cpus stops = first_from (is_free stops) 0 cpus
+abbrev pub free_number : List OpenStop → Option ℕ
+free_number stops = first_from (is_free stops) 0 64

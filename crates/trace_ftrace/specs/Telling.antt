@@ -6,7 +6,7 @@ use Rattle.trace_ftrace.specs.declared.stops.OpenStop.{OpenStop}
 use Rattle.trace_ftrace.specs.declared.told.Told.{Told}
 
 -- the addresses of records by their numbers, the events, the record whose call each CPU runs, how many CPUs there are, the stops
--- that are open, and the sources of the rendezvous and of the stop of one CPU in which each CPU is
+-- that are open, and the numbers of the rendezvous and of the stop of one CPU in which each CPU is
 pub record TellingValue : Type 0 where
   pub addresses : List ℕ
   pub told : List Told
@@ -16,6 +16,6 @@ pub record TellingValue : Type 0 where
   pub inside : List (Option ℕ)
   pub alone : List (Option ℕ)
 
--- with an event of this CPU, told by this line
-abbrev pub with_event : Stamp → ℕ → Event → TellingValue → TellingValue
-with_event at cpu e t = record t { told = t.told ++ record { line = at.line; cpu = cpu; time = at.time; event = e } ∷ [] }
+-- with an event of the CPU of a line, told by that line
+abbrev pub with_event : Stamp → Event → TellingValue → TellingValue
+with_event at e t = record t { told = t.told ++ record { line = at.line; cpu = at.cpu; time = at.time; event = e } ∷ [] }

@@ -47,7 +47,7 @@ Numbers (Err why) new made = made ≡ Err why
 
 -- with an event of calls of a mark
 abbrev pub with_told : Mark → CallEvent → TellingValue → TellingValue
-with_told m e t = with_event m.at m.at.cpu (event.Call e) t
+with_told m e t = with_event m.at (event.Call e) t
 
 -- with a call that joins a queue
 unfoldable pub queued : Mark → ℕ → ℕ → Class → TellingValue → Result TellingValue Refusal

@@ -23,7 +23,7 @@ calls_alone = record { gate = true; interrupts = true; order = true; raises = tr
 
 -- the state before the first event
 unfoldable pub start : StateValue
-start = opening (record { cpus = 512; online = every_cpu; keys = 0; sites = 0; without = calls_alone }) (words_of no_labels)
+start = opening (record { cpus = 512; online = every_cpu; keys = 0; sites = 0; is_third = true; without = calls_alone }) (words_of no_labels)
 
 -- the state after one event
 unfoldable pub goes_one : Told → StateValue → Result StateValue EarlyEnd

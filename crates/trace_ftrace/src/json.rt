@@ -166,10 +166,11 @@ fn write_opening<A: Allocator + Copy>(
     alloc: A,
     out: &mut Vec<u8, A>,
     told: &Told,
+    number: u32,
 ) -> Result<(), AllocError>
-    ensures { OnOk result (out.new.items ≡ out.old.items ++ opening_text told.now) }
+    ensures { OnOk result (out.new.items ≡ out.old.items ++ opening_text told.now number) }
 {
-    write_between(alloc, out, "", told.cpu, ",\"args\":")?;
+    write_between(alloc, out, "", number, ",\"args\":")?;
     write_between(alloc, out, "{\"line\":", told.line, ",\"fn\":\"")
 }
 
@@ -179,11 +180,12 @@ fn write_task<A: Allocator + Copy>(
     alloc: A,
     out: &mut Vec<u8, A>,
     told: &Told,
+    number: u32,
     task: &Task,
 ) -> Result<(), AllocError>
-    ensures { OnOk result (out.new.items ≡ out.old.items ++ task_text told.now task.now) }
+    ensures { OnOk result (out.new.items ≡ out.old.items ++ task_text told.now number task.now) }
 {
-    write_opening(alloc, out, told)?;
+    write_opening(alloc, out, told, number)?;
     write_hex(alloc, out, task.func, "\",\"cpus\":\"")?;
     write_cpus_end(alloc, out, task.mask)
 }
@@ -194,13 +196,14 @@ fn write_open<A: Allocator + Copy>(
     alloc: A,
     out: &mut Vec<u8, A>,
     told: &Told,
+    number: u32,
     task: &Task,
 ) -> Result<(), AllocError>
-    ensures { OnOk result (out.new.items ≡ out.old.items ++ open_text told.now task.now) }
+    ensures { OnOk result (out.new.items ≡ out.old.items ++ open_text told.now number task.now) }
 {
     write_entry(alloc, out, Kind::Open, told)?;
-    write_between(alloc, out, "", told.cpu, "\",\"id\":")?;
-    write_task(alloc, out, told, task)
+    write_between(alloc, out, "", number, "\",\"id\":")?;
+    write_task(alloc, out, told, number, task)
 }
 
 /// Writes a stop whose result is collected.
@@ -209,12 +212,13 @@ fn write_collect<A: Allocator + Copy>(
     alloc: A,
     out: &mut Vec<u8, A>,
     told: &Told,
+    number: u32,
 ) -> Result<(), AllocError>
-    ensures { OnOk result (out.new.items ≡ out.old.items ++ collect_text told.now) }
+    ensures { OnOk result (out.new.items ≡ out.old.items ++ collect_text told.now number) }
 {
     write_entry(alloc, out, Kind::Collect, told)?;
-    write_between(alloc, out, "", told.cpu, "\",\"id\":")?;
-    write_between(alloc, out, "", told.cpu, "}")
+    write_between(alloc, out, "", number, "\",\"id\":")?;
+    write_between(alloc, out, "", number, "}")
 }
 
 /// Writes a stop that is entered.
@@ -223,12 +227,12 @@ fn write_enter<A: Allocator + Copy>(
     alloc: A,
     out: &mut Vec<u8, A>,
     told: &Told,
-    source: u32,
+    number: u32,
 ) -> Result<(), AllocError>
-    ensures { OnOk result (out.new.items ≡ out.old.items ++ enter_text told.now source) }
+    ensures { OnOk result (out.new.items ≡ out.old.items ++ enter_text told.now number) }
 {
     write_entry(alloc, out, Kind::Enter, told)?;
-    write_between(alloc, out, "", source, "\",\"args\":{\"line\":")?;
+    write_between(alloc, out, "", number, "\",\"args\":{\"line\":")?;
     write_between(alloc, out, "", told.line, "}}")
 }
 
@@ -286,12 +290,12 @@ fn write_stop<A: Allocator + Copy>(
     ensures { OnOk result (out.new.items ≡ out.old.items ++ stop_text told.now event) }
 {
     match event {
-        StopEvent::Open(task) => write_open(alloc, out, told, &task),
-        StopEvent::Enter(source) => write_enter(alloc, out, told, source),
+        StopEvent::Open(number, task) => write_open(alloc, out, told, number, &task),
+        StopEvent::Enter(number) => write_enter(alloc, out, told, number),
         StopEvent::Ack(phase) => write_ack(alloc, out, told, phase),
         StopEvent::Run(func, _) => write_run(alloc, out, told, func),
         StopEvent::Complete(_) => write_entry(alloc, out, Kind::End, told),
-        StopEvent::Collect(_) => write_collect(alloc, out, told),
+        StopEvent::Collect(number, _) => write_collect(alloc, out, told, number),
         _ => Ok(()),
     }
 }

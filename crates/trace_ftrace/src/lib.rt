@@ -1,7 +1,8 @@
 //! What a kernel's own tracer wrote, as events that are judged.
 //!
 //! - `text`: The verdict on a text of the tracer; `verdict`: the verdict on its events; `verdict_text`: what is printed of it.
-//! - `thin_text`: A text of which only the lines are kept that a verdict shows.
+//! - `reader`: The verdict on what a reader gives, without holding it; `thin_text`: a text of which only the lines are kept that a verdict
+//!   shows.
 //! - `names`: Why an event is none, by the kernel's names; `counts`: what of the lines is not judged; `waits`: the calls that wait for long.
 //! - `print`: The trace that a text tells; `json`: its events in the trace-event format.
 //! - `laws`: What is printed of a text, for a reader of it.
@@ -36,6 +37,7 @@ mod per_cpu;
 pub mod pieces;
 pub mod placing;
 pub mod print;
+pub mod reader;
 pub mod records;
 pub mod sign;
 pub mod stop_sign;

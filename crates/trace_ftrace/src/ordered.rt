@@ -42,6 +42,7 @@ fn open_in_order<A: Allocator + Copy>(alloc: A) -> Result<State<A>, AllocError>
         online: every_cpu(),
         keys: 0,
         sites: 0,
+        is_third: true,
         without: without(),
     };
     State::open_all(alloc, setting, no_words())

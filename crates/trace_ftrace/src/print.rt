@@ -2,40 +2,41 @@
 
 ghost use Rattle.std.specs.Prelude.{◌≡◌, ◌++◌, OnOk, IfOk, string_bytes};
 ghost use Rattle.std.specs.List.{flat_map};
-ghost use Rattle.trace_ftrace.specs.Print.{event_lines, has_high, head_text, is_high, is_long, printed, trace_of, trace_text, IsTrace};
+ghost use Rattle.trace_ftrace.specs.Print.{event_lines, has_third, head_text, is_long, is_third, printed, trace_of, trace_text, IsTrace};
 ghost use Rattle.trace_ftrace.specs.Reading.{reading_of};
 
 use crate::told::Told;
 use crate::verdict::read_told;
 use crate::wrong::Refusal;
 use std::alloc::{AllocError, Allocator};
-use trace_events::text::write_line;
+use trace_events::text::write_numbered_line;
 use trace_judge::body::MOST_TRACE_BYTES;
 use trace_model::{CallEvent, Event};
 
 /// The most events of a trace that has a comment for each, and three lines in front.
 const MOST_PRINTED: usize = 499_998;
 
-/// Whether an event is of a CPU from 32 on, or queues a call for one.
-fn is_high(told: &Told) -> bool
-    ensures { result ≡ is_high told.now }
+/// Whether an event needs version 3: it is of stops, or it is of a CPU from 32 on, or queues a call for one.
+fn is_third(told: &Told) -> bool
+    ensures { result ≡ is_third told.now }
 {
     if told.cpu >= 32 {
         return true;
     }
     match told.event {
         Event::Call(CallEvent::Queue(_, to, ..)) => to >= 32,
+        Event::Stop(_) => true,
         _ => false,
     }
 }
 
 /// Whether one of these is so.
-fn has_high(told: &[Told]) -> bool
-    ensures { result ≡ has_high told.now }
+fn has_third(told: &[Told]) -> bool
+    ensures { result ≡ has_third told.now }
 {
     let mut rest = told;
     while let [first, after @ ..] = rest {
-        if is_high(first) {
+        if is_third(first) {
             return true;
         }
         rest = after;
@@ -45,10 +46,10 @@ fn has_high(told: &[Told]) -> bool
 
 /// Writes what is in front of the events.
 #[tactic(auto, unfolding(crate::specs::Print::head_text))]
-fn write_head<A: Allocator>(out: &mut String<A>, is_wide: bool) -> Result<(), AllocError>
-    ensures { OnOk result (string_bytes out.new ≡ string_bytes out.old ++ head_text is_wide) }
+fn write_head<A: Allocator>(out: &mut String<A>, is_third: bool) -> Result<(), AllocError>
+    ensures { OnOk result (string_bytes out.new ≡ string_bytes out.old ++ head_text is_third) }
 {
-    if is_wide {
+    if is_third {
         return write!(
             out,
             "smp 3 trace\ncpus 512 0-511\nwithout gate interrupts order raises switches unlocks\n"
@@ -67,7 +68,7 @@ fn write_event<A: Allocator>(out: &mut String<A>, told: &Told) -> Result<(), All
 {
     let line = told.line;
     writeln!(out, "# line {line}")?;
-    write_line(out, told.cpu, told.event)
+    write_numbered_line(out, told.cpu, told.event)
 }
 
 /// Writes events.
@@ -88,7 +89,7 @@ fn trace_text<A: Allocator>(alloc: A, told: &[Told]) -> Result<Vec<u8, A>, Alloc
     ensures { IfOk result (λ v. v.items ≡ trace_text told.now) }
 {
     let mut out = String::new(alloc);
-    write_head(&mut out, has_high(told))?;
+    write_head(&mut out, has_third(told))?;
     write_all(&mut out, told)?;
     Ok(out.into_bytes())
 }

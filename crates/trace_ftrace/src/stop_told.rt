@@ -10,7 +10,7 @@ ghost use Rattle.trace_ftrace.specs.ToldView.{telling_value};
 use crate::kept::{Mark, Stamp};
 use crate::per_cpu::{at, put};
 use crate::stop_sign::{Opening, StopSign, Work};
-use crate::stops::{Found, OpenStop, Plan, Wanted, find, free_source, plan_of};
+use crate::stops::{Found, OpenStop, Plan, Wanted, find, free_number, plan_of};
 use crate::told::{Telling, tell};
 use crate::wrong::{Refusal, Wrong};
 use std::alloc::Allocator;
@@ -20,13 +20,12 @@ use trace_model::{Event, StopEvent, Task};
 fn tell_stop<A: Allocator>(
     telling: &mut Telling<A>,
     stamp: Stamp,
-    cpu: u32,
     event: StopEvent,
 ) -> Result<(), Refusal>
-    ensures made { Keeps result (telling_value telling.new) (Ok (with_event stamp cpu (Event.Stop event) (telling_value telling.old))) }
+    ensures made { Keeps result (telling_value telling.new) (Ok (with_event stamp (Event.Stop event) (telling_value telling.old))) }
     ensures same { telling.new.addresses ≡ telling.old.addresses }
 {
-    tell(telling, stamp, cpu, Event::Stop(event))
+    tell(telling, stamp, Event::Stop(event))
 }
 
 /// What a stop is to do, as its event has it.
@@ -50,7 +49,7 @@ fn replace(stops: &mut [OpenStop], place: usize, stop: OpenStop)
     stops[place] = stop;
 }
 
-/// Tells that a stop is opened, as that of the least CPU that is the source of none.
+/// Tells that a stop is opened, with the least number that none has.
 #[tactic(auto, unfolding(crate::specs::StopTold::opened))]
 fn open_stop<A: Allocator>(
     telling: &mut Telling<A>,
@@ -60,16 +59,16 @@ fn open_stop<A: Allocator>(
     ensures made { Keeps result (telling_value telling.new) (opened stamp plan (telling_value telling.old)) }
     ensures same { telling.new.addresses ≡ telling.old.addresses }
 {
-    let Some(source) = free_source(telling.cpus.min(32), telling.stops.as_slice()) else {
+    let Some(number) = free_number(telling.stops.as_slice()) else {
         return Err(Refusal::Wrong(stamp.line, Wrong::Stops));
     };
     let stop = OpenStop {
-        source,
+        number,
         plan,
         has_begun: false,
     };
     match telling.stops.push(stop) {
-        Ok(()) => tell_stop(telling, stamp, source, StopEvent::Open(task_of(&plan))),
+        Ok(()) => tell_stop(telling, stamp, StopEvent::Open(number, task_of(&plan))),
         Err(_) => Err(Refusal::NoMemory),
     }
 }
@@ -121,11 +120,11 @@ fn tell_enter<A: Allocator>(
     let Some(Found { place, mut stop }) = find(wanted, telling.stops.as_slice()) else {
         return Ok(());
     };
-    let source = stop.source;
+    let number = stop.number;
     stop.plan.ident = Some(ident);
     replace(telling.stops.as_mut_slice(), place, stop);
-    put(&mut telling.inside, cpu, Some(source));
-    tell_stop(telling, stamp, cpu, StopEvent::Enter(source))
+    put(&mut telling.inside, cpu, Some(number));
+    tell_stop(telling, stamp, StopEvent::Enter(number))
 }
 
 /// Tells an event of a CPU that is in a rendezvous; nothing of another.
@@ -139,7 +138,7 @@ fn tell_inside<A: Allocator>(
     ensures same { telling.new.addresses ≡ telling.old.addresses }
 {
     match at(&telling.inside, stamp.cpu, None) {
-        Some(_) => tell_stop(telling, stamp, stamp.cpu, event),
+        Some(_) => tell_stop(telling, stamp, event),
         None => Ok(()),
     }
 }
@@ -158,7 +157,7 @@ fn tell_leave<A: Allocator>(
         return Ok(());
     };
     put(&mut telling.inside, stamp.cpu, None);
-    tell_stop(telling, stamp, stamp.cpu, StopEvent::Complete(answer))
+    tell_stop(telling, stamp, StopEvent::Complete(answer))
 }
 
 /// Tells that a CPU begins the work of a stop of its own; nothing where that is not open, as of a rendezvous.
@@ -176,12 +175,12 @@ fn tell_start<A: Allocator>(
     else {
         return Ok(());
     };
-    let source = stop.source;
+    let number = stop.number;
     stop.has_begun = true;
     replace(telling.stops.as_mut_slice(), place, stop);
-    put(&mut telling.alone, cpu, Some(source));
-    match tell_stop(telling, stamp, cpu, StopEvent::Enter(source)) {
-        Ok(()) => tell_stop(telling, stamp, cpu, StopEvent::Run(work.func, work.arg)),
+    put(&mut telling.alone, cpu, Some(number));
+    match tell_stop(telling, stamp, StopEvent::Enter(number)) {
+        Ok(()) => tell_stop(telling, stamp, StopEvent::Run(work.func, work.arg)),
         Err(why) => Err(why),
     }
 }
@@ -198,23 +197,23 @@ fn collect<A: Allocator>(
     ensures made { Keeps result (telling_value telling.new) (Ok (collected stamp found.now answer (telling_value telling.old))) }
     ensures same { telling.new.addresses ≡ telling.old.addresses }
 {
-    let source = found.stop.source;
+    let number = found.stop.number;
     telling.stops.remove(found.place);
-    tell_stop(telling, stamp, source, StopEvent::Collect(answer))
+    tell_stop(telling, stamp, StopEvent::Collect(number, answer))
 }
 
-/// Tells that the stop of a source has its answer, where nobody waits for it.
+/// Tells that the stop of a number has its answer, where nobody waits for it.
 #[tactic(auto, unfolding(crate::specs::StopTold::unwaited))]
 fn end_unwaited<A: Allocator>(
     telling: &mut Telling<A>,
     stamp: Stamp,
-    source: u32,
+    number: u32,
     answer: i32,
 ) -> Result<(), Refusal>
-    ensures made { Keeps result (telling_value telling.new) (Ok (unwaited stamp source answer (telling_value telling.old))) }
+    ensures made { Keeps result (telling_value telling.new) (Ok (unwaited stamp number answer (telling_value telling.old))) }
     ensures same { telling.new.addresses ≡ telling.old.addresses }
 {
-    let Some(found) = find(Wanted::Of(source), telling.stops.as_slice()) else {
+    let Some(found) = find(Wanted::Of(number), telling.stops.as_slice()) else {
         return Ok(());
     };
     match found.stop.plan.task {
@@ -233,12 +232,12 @@ fn tell_done<A: Allocator>(
     ensures made { Keeps result (telling_value telling.new) (Ok (done stamp answer (telling_value telling.old))) }
     ensures same { telling.new.addresses ≡ telling.old.addresses }
 {
-    let Some(source) = at(&telling.alone, stamp.cpu, None) else {
+    let Some(number) = at(&telling.alone, stamp.cpu, None) else {
         return Ok(());
     };
     put(&mut telling.alone, stamp.cpu, None);
-    match tell_stop(telling, stamp, stamp.cpu, StopEvent::Complete(answer)) {
-        Ok(()) => end_unwaited(telling, stamp, source, answer),
+    match tell_stop(telling, stamp, StopEvent::Complete(answer)) {
+        Ok(()) => end_unwaited(telling, stamp, number, answer),
         Err(why) => Err(why),
     }
 }

@@ -2,7 +2,7 @@
 
 ghost use Rattle.std.specs.Prelude.{◌≡◌, ◌<◌, ◌^◌, length, IfSome};
 ghost use Rattle.std.specs.Int.Bits.{bit_or};
-ghost use Rattle.trace_ftrace.specs.Stops.{active_in, alone, chosen, found_from, free_source, is_active, is_entered, is_free, is_wanted, joined};
+ghost use Rattle.trace_ftrace.specs.Stops.{active_in, alone, chosen, found_from, free_number, is_active, is_entered, is_free, is_wanted, joined};
 ghost use Rattle.trace_ftrace.specs.Stops.{least_of, pair, plan_of, queued_data, queued_mask, rendezvous, task_step};
 ghost use Rattle.trace_model.specs.Ending.{joined_if};
 ghost use Rattle.trace_model.specs.Stop.{first_of};
@@ -29,8 +29,8 @@ pub struct Plan {
 /// A stop that is open.
 #[derive(Clone, Copy)]
 pub struct OpenStop {
-    /// The CPU whose stop it is told to be.
-    pub source: u32,
+    /// Its number.
+    pub number: u32,
     pub plan: Plan,
     /// Whether its only CPU has begun its work.
     pub has_begun: bool,
@@ -52,7 +52,7 @@ pub enum Wanted {
     Begun(u32, Work),
     /// That for which this task waits.
     OfTask(u64),
-    /// That of this source.
+    /// That of this number.
     Of(u32),
 }
 
@@ -307,7 +307,7 @@ fn is_wanted(wanted: Wanted, stop: &OpenStop) -> bool
             Some(waits) => waits == task,
             None => false,
         },
-        Wanted::Of(source) => stop.source == source,
+        Wanted::Of(number) => stop.number == number,
     }
 }
 
@@ -331,21 +331,21 @@ pub(crate) fn find(wanted: Wanted, stops: &[OpenStop]) -> Option<Found>
     None
 }
 
-/// Whether a CPU is the source of none of these.
-fn is_free(source: u32, stops: &[OpenStop]) -> bool
-    ensures { result ≡ is_free stops.now source }
+/// Whether a number is that of none of these.
+fn is_free(number: u32, stops: &[OpenStop]) -> bool
+    ensures { result ≡ is_free stops.now number }
 {
-    find(Wanted::Of(source), stops).is_none()
+    find(Wanted::Of(number), stops).is_none()
 }
 
-/// The least of this number of CPUs that is the source of none of these.
+/// The least of the 64 numbers that is that of none of these.
 #[tactic(auto, using(trace_model::proofs::Least::first_hit, trace_model::proofs::Least::first_miss, trace_model::proofs::Least::first_end))]
-pub(crate) fn free_source(cpus: u32, stops: &[OpenStop]) -> Option<u32>
-    ensures { result ≡ free_source cpus stops.now }
+pub(crate) fn free_number(stops: &[OpenStop]) -> Option<u32>
+    ensures { result ≡ free_number stops.now }
 {
-    for source in 0..cpus {
-        if is_free(source, stops) {
-            return Some(source);
+    for number in 0..64 {
+        if is_free(number, stops) {
+            return Some(number);
         }
     }
     None

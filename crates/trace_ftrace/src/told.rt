@@ -41,9 +41,9 @@ pub struct Telling<A: Allocator> {
     pub(crate) cpus: u32,
     /// The stops that are open, as they were opened.
     pub(crate) stops: Vec<OpenStop, A>,
-    /// The source of the rendezvous in which each CPU is.
+    /// The number of the rendezvous in which each CPU is.
     pub(crate) inside: [Option<u32>; 512],
-    /// The source of the stop of each CPU alone that it runs.
+    /// The number of the stop of each CPU alone that it runs.
     pub(crate) alone: [Option<u32>; 512],
 }
 
@@ -75,13 +75,17 @@ fn recorded<A: Allocator + Copy>(
 pub(crate) fn tell<A: Allocator>(
     telling: &mut Telling<A>,
     stamp: Stamp,
-    cpu: u32,
     event: Event,
 ) -> Result<(), Refusal>
-    ensures made { Keeps result (telling_value telling.new) (Ok (with_event stamp cpu event (telling_value telling.old))) }
+    ensures made { Keeps result (telling_value telling.new) (Ok (with_event stamp event (telling_value telling.old))) }
     ensures same { telling.new.addresses ≡ telling.old.addresses }
 {
-    let Stamp { line, time, .. } = stamp;
+    let Stamp {
+        line,
+        cpu,
+        time,
+        ..
+    } = stamp;
     let told = Told {
         line,
         cpu,
@@ -103,7 +107,7 @@ fn tell_call<A: Allocator>(
     ensures made { Keeps result (telling_value telling.new) (Ok (with_told mark.now event (telling_value telling.old))) }
     ensures same { telling.new.addresses ≡ telling.old.addresses }
 {
-    tell(telling, mark.at, mark.at.cpu, Event::Call(event))
+    tell(telling, mark.at, Event::Call(event))
 }
 
 /// Tells that a call joins a queue.

@@ -17,7 +17,7 @@ pub enum Wrong {
     Class,
     /// It has one record more than there can be.
     Records,
-    /// It opens one stop more than there are CPUs, of 32 at most.
+    /// It opens a stop while 64 are open.
     Stops,
     /// It shows that a CPU has gone offline, and an event is refused that this may have caused.
     Offline,

@@ -50,11 +50,11 @@ version_in fields =
     if is_title (codes "2") fields then Ok false else (if is_title (codes "3") fields then Ok true else Err (Fault 1 Word))
 
 unfoldable pub titled : List Line → Result (Bool × CursorValue) EarlyEnd
-titled lines = needed (record { number = 1; used = 0; lines = lines }) >>= λ found. version_in (fields_of found.0) >>= λ is_wide. Ok (is_wide, found.1)
+titled lines = needed (record { number = 1; used = 0; lines = lines }) >>= λ found. version_in (fields_of found.0) >>= λ is_third. Ok (is_third, found.1)
 
 -- line 2: how many CPUs there are, and those below 32 that are online
 unfoldable pub cpus_at : Bool → CursorValue → Result ((ℕ × ℕ) × CursorValue) EarlyEnd
-cpus_at is_wide s = needed s >>= λ found. at_line 2 (cpus_told is_wide (fields_of found.0)) >>= λ cpus. Ok (cpus, found.1)
+cpus_at is_third s = needed s >>= λ found. at_line 2 (cpus_told is_third (fields_of found.0)) >>= λ cpus. Ok (cpus, found.1)
 
 -- `labels KEYS ITEMS`
 abbrev pub is_labels : List (List ℕ) → Bool
@@ -151,20 +151,27 @@ pub record HeadValue : Type 0 where
   pub words : LabelWords
   pub cursor : CursorValue
 
-abbrev pub setting_with : ℕ → ℕ → Labels → Without → Setting
-setting_with cpus online labels without =
-    record { cpus = cpus; online = online; keys = labels.keys; sites = length labels.entries; without = without }
+abbrev pub setting_with : Bool → ℕ × ℕ → Labels → Without → Setting
+setting_with is_third cpus labels without = record {
+  cpus = cpus.0;
+  online = cpus.1;
+  keys = labels.keys;
+  sites = length labels.entries;
+  is_third = is_third;
+  without = without;
+}
 
--- of at most 32 CPUs
+-- of version 2
 abbrev pub setting_of : ℕ → Labels → Without → Setting
-setting_of online labels without = setting_with 32 online labels without
+setting_of online labels without = setting_with false (32, online) labels without
 
-abbrev pub head_with : ℕ × ℕ → Labels → Without → CursorValue → HeadValue
-head_with cpus labels without cursor = record { setting = setting_with cpus.0 cpus.1 labels without; words = words_of labels; cursor = cursor }
+abbrev pub head_with : Setting → Labels → CursorValue → HeadValue
+head_with setting labels cursor = record { setting = setting; words = words_of labels; cursor = cursor }
 
 unfoldable pub head_of : List Line → Result HeadValue EarlyEnd
 head_of lines = titled lines >>= λ second. cpus_at second.0 second.1 >>= λ cpus. labels_at cpus.0.0 cpus.1 >>= λ labels.
-    without_at labels.1 >>= λ without. Ok (head_with cpus.0 labels.0 without.0 without.1)
+    without_at labels.1 >>= λ without.
+    Ok (head_with (setting_with second.0 cpus.0 labels.0 without.0) labels.0 without.1)
 
 -- what a function reads is so, seen by view, unless memory ran out
 abbrev pub Sees : {X Y : Type 0} → (X → Y) → Result X EarlyEnd → Result Y EarlyEnd → Type 0

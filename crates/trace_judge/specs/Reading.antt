@@ -6,6 +6,7 @@ use Rattle.std.specs.Str.{bytes_eq}
 use Rattle.smp_mask.specs.declared.error.Cause.{Cause}
 use Rattle.smp_mask.specs.declared.error.Cause.TheVariants.{Word, Range}
 use Rattle.smp_words.specs.declared.call.Class.{Class}
+use Rattle.smp_words.specs.declared.call.Class.TheVariants.{Async}
 use Rattle.smp_words.specs.declared.work.Kind.{Kind}
 use Rattle.smp_script.specs.Commands.{are_whole}
 use Rattle.smp_words.specs.FirstFault.{◌>>=◌}
@@ -18,6 +19,7 @@ use Rattle.trace_model.specs.declared.event.Event.TheVariants.{Call, Stop, Label
 use Rattle.trace_model.specs.declared.event.CallEvent.TheVariants as calls
 use Rattle.trace_model.specs.declared.event.StopEvent.TheVariants as stops
 use Rattle.trace_model.specs.declared.event.LabelEvent.TheVariants as labels
+use Rattle.trace_model.specs.declared.stop.Task.{Task}
 use Rattle.trace_model.specs.declared.without.Setting.{Setting}
 use Rattle.trace_model.specs.declared.without.Without.{Without}
 
@@ -61,20 +63,20 @@ abbrev pub complete_of : List ℕ → Result Event Cause
 complete_of text = signed_of text >>= λ n. Ok (Stop (stops.Complete n))
 
 abbrev pub collect_of : List ℕ → Result Event Cause
-collect_of text = signed_of text >>= λ n. Ok (Stop (stops.Collect n))
+collect_of text = signed_of text >>= λ n. Ok (Stop (stops.Collect 0 n))
 
 -- the event of a name with one argument
-abbrev pub one_of : Without → List ℕ → List ℕ → Result (Result Event Cause) Cause
-one_of w name a =
+abbrev pub one_of : Setting → List ℕ → List ℕ → Result (Result Event Cause) Cause
+one_of u name a =
     if bytes_eq name (codes "free") then Ok (free_of a)
-    else (if is_told name (codes "unlock") w.unlocks then Ok (unlock_of a)
+    else (if is_told name (codes "unlock") u.without.unlocks then Ok (unlock_of a)
     else (if bytes_eq name (codes "end") then Ok (end_of a)
-    else (if is_told name (codes "send") w.interrupts then Ok (send_of a)
+    else (if is_told name (codes "send") u.without.interrupts then Ok (send_of a)
     else (if bytes_eq name (codes "enter") then Ok (enter_of a)
     else (if bytes_eq name (codes "ack") then Ok (ack_of a)
-    else (if is_told name (codes "raise") w.raises then Ok (raise_of a)
+    else (if is_told name (codes "raise") u.without.raises then Ok (raise_of a)
     else (if bytes_eq name (codes "complete") then Ok (complete_of a)
-    else (if bytes_eq name (codes "collect") then Ok (collect_of a) else Err Word))))))))
+    else (if is_told name (codes "collect") u.is_third then Ok (collect_of a) else Err Word))))))))
 
 -- a number below a limit
 abbrev pub below : ℕ → List ℕ → Result ℕ Cause
@@ -102,6 +104,10 @@ key_of keys key on = below keys key >>= λ k. Ok (Label (labels.Key k on))
 abbrev pub nudge_of : ℕ → List ℕ → Bool → Result Event Cause
 nudge_of keys key up = below keys key >>= λ k. Ok (Label (labels.Nudge k up))
 
+-- in version 3, the number of a stop and its result
+abbrev pub collect_numbered : List ℕ → List ℕ → Result Event Cause
+collect_numbered number answer = below 64 number >>= λ n. signed_of answer >>= λ v. Ok (Stop (stops.Collect n v))
+
 -- the event of a name with two arguments
 abbrev pub two_of : Setting → List ℕ → List ℕ → List ℕ → Result (Result Event Cause) Cause
 two_of u name a b =
@@ -110,7 +116,8 @@ two_of u name a b =
     else (if bytes_eq name (codes "turn") then (jump_of b >>= λ jumps. Ok (turn_of u.sites a jumps))
     else (if bytes_eq name (codes "site") then (jump_of b >>= λ jumps. Ok (site_of u.sites a jumps))
     else (if bytes_eq name (codes "key") then (switch_of b >>= λ on. Ok (key_of u.keys a on))
-    else (if bytes_eq name (codes "nudge") then (way_of b >>= λ up. Ok (nudge_of u.keys a up)) else Err Word)))))
+    else (if bytes_eq name (codes "nudge") then (way_of b >>= λ up. Ok (nudge_of u.keys a up))
+    else (if is_told name (codes "collect") (not u.is_third) then Ok (collect_numbered a b) else Err Word))))))
 
 abbrev pub begin_of : List ℕ → List ℕ → List ℕ → Result Event Cause
 begin_of id func info = word16 id >>= λ r. word64 func >>= λ f. word64 info >>= λ i. Ok (Call (calls.Begin r f i))
@@ -123,25 +130,47 @@ abbrev pub queue_of : List ℕ → List ℕ → Class → List ℕ → List ℕ 
 queue_of id to class func info =
     word16 id >>= λ r. word32 to >>= λ d. word64 func >>= λ f. word64 info >>= λ i. Ok (Call (calls.Queue r d class f i))
 
-abbrev pub open_of : Kind → List ℕ → List ℕ → List ℕ → List ℕ → Result Event Cause
-open_of kind mask active func arg =
+abbrev pub task_of : Kind → List ℕ → List ℕ → List ℕ → List ℕ → Result Task Cause
+task_of kind mask active func arg =
     mask_of 32 mask >>= λ m. mask_of 32 active >>= λ a. word64 func >>= λ f. word64 arg >>= λ x.
-    Ok (Stop (stops.Open (record { kind = kind; mask = m; active = a; func = f; arg = x })))
+    Ok (record { kind = kind; mask = m; active = a; func = f; arg = x })
+
+-- a class may be unknown in version 3, where neither the order of queues nor unlocks are told: the call is judged as an ASYNC one
+abbrev pub may_be_unknown : Setting → Bool
+may_be_unknown u = u.is_third && u.without.order && u.without.unlocks
+
+abbrev pub class_in : Setting → List ℕ → Result Class Cause
+class_in u text = if bytes_eq text (codes "unknown") && may_be_unknown u then Ok Async else class_of text
 
 -- `queue`, and then R D CLASS FUNC INFO
-abbrev pub queue_line : List (List ℕ) → Result (Result Event Cause) Cause
-queue_line (id ∷ to ∷ class ∷ func ∷ info ∷ []) = class_of class >>= λ c. Ok (queue_of id to c func info)
-queue_line _ = Err Word
+abbrev pub queue_line : Setting → List (List ℕ) → Result (Result Event Cause) Cause
+queue_line u (id ∷ to ∷ class ∷ func ∷ info ∷ []) = class_in u class >>= λ c. Ok (queue_of id to c func info)
+queue_line u _ = Err Word
 
--- `open`, and then KIND MASK ACTIVE FUNC ARG
-abbrev pub open_line : List (List ℕ) → Result (Result Event Cause) Cause
-open_line (kind ∷ mask ∷ active ∷ func ∷ arg ∷ []) = kind_of kind >>= λ k. Ok (open_of k mask active func arg)
-open_line _ = Err Word
+-- KIND MASK ACTIVE FUNC ARG
+abbrev pub task_line : List (List ℕ) → Result (Result Task Cause) Cause
+task_line (kind ∷ mask ∷ active ∷ func ∷ arg ∷ []) = kind_of kind >>= λ k. Ok (task_of k mask active func arg)
+task_line _ = Err Word
+
+-- `open`, and then these; in version 3 the number of the stop comes first
+abbrev pub open_as : ℕ → Result Task Cause → Result Event Cause
+open_as number task = task >>= λ t. Ok (Stop (stops.Open number t))
+
+abbrev pub numbered_open : List ℕ → Result Task Cause → Result Event Cause
+numbered_open number task = below 64 number >>= λ n. open_as n task
+
+abbrev pub open_numbered : List (List ℕ) → Result (Result Event Cause) Cause
+open_numbered [] = Err Word
+open_numbered (number ∷ rest) = task_line rest >>= λ task. Ok (numbered_open number task)
+
+abbrev pub open_line : Bool → List (List ℕ) → Result (Result Event Cause) Cause
+open_line true arguments = open_numbered arguments
+open_line false arguments = task_line arguments >>= λ task. Ok (open_as 0 task)
 
 -- the event of a name with at most three arguments
 abbrev pub short_of : Setting → List ℕ → List (List ℕ) → Result (Result Event Cause) Cause
 short_of u name [] = none_of u.without name >>= λ event. Ok (Ok event)
-short_of u name (a ∷ []) = one_of u.without name a
+short_of u name (a ∷ []) = one_of u name a
 short_of u name (a ∷ b ∷ []) = two_of u name a b
 short_of u name (a ∷ b ∷ c ∷ []) = three_of name a b c
 short_of u name _ = Err Word
@@ -149,20 +178,35 @@ short_of u name _ = Err Word
 -- the event of a name and its arguments
 unfoldable pub named_of : Setting → List ℕ → List (List ℕ) → Result (Result Event Cause) Cause
 named_of u name arguments =
-    if bytes_eq name (codes "queue") then queue_line arguments
-    else (if bytes_eq name (codes "open") then open_line arguments else short_of u name arguments)
+    if bytes_eq name (codes "queue") then queue_line u arguments
+    else (if bytes_eq name (codes "open") then open_line u.is_third arguments else short_of u name arguments)
 
 -- the CPU of the line, which is one that is online
 abbrev pub online_of : Setting → List ℕ → Result ℕ Cause
 online_of u cpu = word32 cpu >>= λ c. if is_online u c then Ok c else Err Range
 
--- stops, keys and sites are those of the CPUs below 32
+-- CPUs below 32 alone are in stops, and have keys and sites
 abbrev pub is_low : ℕ → Event → Bool
 is_low cpu (Call call) = true
+is_low cpu (Stop stops.Gate) = true
+is_low cpu (Stop stops.Ungate) = true
+is_low cpu (Stop (stops.Open number task)) = true
+is_low cpu (Stop (stops.Collect number answer)) = true
 is_low cpu _ = nat_lt cpu 32
 
+-- where stops have no numbers of their own, each has that of the CPU that opens it
+abbrev pub own_stop : ℕ → Event → Event
+own_stop cpu (Stop (stops.Open number task)) = Stop (stops.Open cpu task)
+own_stop cpu (Stop (stops.Collect number answer)) = Stop (stops.Collect cpu answer)
+own_stop cpu event = event
+
+abbrev pub numbered : Bool → ℕ → Event → Event
+numbered true cpu event = event
+numbered false cpu event = own_stop cpu event
+
 abbrev pub with_cpu_of : Setting → List ℕ → Result Event Cause → Result (ℕ × Event) Cause
-with_cpu_of u cpu read = online_of u cpu >>= λ c. read >>= λ event. if is_low c event then Ok (c, event) else Err Range
+with_cpu_of u cpu read =
+    online_of u cpu >>= λ c. read >>= λ event. if is_low c event then Ok (c, numbered u.is_third c event) else Err Range
 
 -- the event that the fields of a line tell
 abbrev pub event_of : Setting → List (List ℕ) → Result (ℕ × Event) Cause

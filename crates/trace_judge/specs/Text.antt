@@ -32,7 +32,7 @@ call_name (calls.End id) = codes "end"
 abbrev pub stop_name : StopEvent → List ℕ
 stop_name stops.Gate = codes "gate"
 stop_name stops.Ungate = codes "ungate"
-stop_name (stops.Open task) = codes "open"
+stop_name (stops.Open number task) = codes "open"
 stop_name (stops.Enter source) = codes "enter"
 stop_name (stops.Ack phase) = codes "ack"
 stop_name (stops.Raise phase) = codes "raise"
@@ -40,7 +40,7 @@ stop_name stops.Off = codes "off"
 stop_name stops.On = codes "on"
 stop_name (stops.Run func arg) = codes "run"
 stop_name (stops.Complete answer) = codes "complete"
-stop_name (stops.Collect answer) = codes "collect"
+stop_name (stops.Collect number answer) = codes "collect"
 
 abbrev pub label_name : LabelEvent → List ℕ
 label_name (labels.Set key count) = codes "set"
@@ -140,14 +140,14 @@ queue_text s cpu =
 
 -- a stop that is open: its phase, and those for whom it waits
 abbrev pub open_text : ℕ → Stop → List ℕ
-open_text source stop =
+open_text number stop =
     if stop.is_open then
-    codes "stop " ++ decimal source ++ codes " " ++ kind_text stop.task.kind ++ codes " " ++ decimal stop.phase ++
+    codes "stop " ++ decimal number ++ codes " " ++ kind_text stop.task.kind ++ codes " " ++ decimal stop.phase ++
     codes " " ++ mask_text (waiting stop) ++ 10 ∷ []
     else codes ""
 
 abbrev pub stop_text : StateValue → ℕ → List ℕ
-stop_text s source = open_text source (stop_at s source)
+stop_text s number = open_text number (stop_at s number)
 
 -- how many queues are not empty, how many records are not free, and how many CPUs handle; `drained` where none is
 abbrev pub left_text : ℕ → ℕ → ℕ → List ℕ
@@ -158,5 +158,5 @@ left_text heads locked busy =
 -- what is printed of a lawful trace with that number of events that ends in this state
 abbrev pub lawful_text : ℕ → StateValue → List ℕ
 lawful_text events s =
-    codes "lawful " ++ decimal events ++ codes " events\n" ++ texts_below (tallies_of s) 512 ++ texts_below (queue_text s) 512 ++ texts_below (stop_text s) 32
+    codes "lawful " ++ decimal events ++ codes " events\n" ++ texts_below (tallies_of s) 512 ++ texts_below (queue_text s) 512 ++ texts_below (stop_text s) 64
     ++ left_text (heads_of s) (locked_of s) (busy_of s)

@@ -111,11 +111,11 @@ fn few_of(fields: &[&[u8]]) -> Result<(u32, CpuMask), Cause>
 }
 
 /// What line 2 tells: 32 or more CPUs, which version 3 has, and those below 32 that are online.
-pub(crate) fn read_cpus(is_wide: bool, fields: &[&[u8]]) -> Result<(u32, CpuMask), Cause>
+pub(crate) fn read_cpus(is_third: bool, fields: &[&[u8]]) -> Result<(u32, CpuMask), Cause>
     requires { AreShort (map (λ f. f.now) fields.now) }
-    ensures { result ≡ cpus_told is_wide (map (λ f. f.now) fields.now) }
+    ensures { result ≡ cpus_told is_third (map (λ f. f.now) fields.now) }
 {
-    if !is_wide {
+    if !is_third {
         return few_of(fields);
     }
     match many_of(fields) {

@@ -93,27 +93,27 @@ fn titled<A: Allocator>(alloc: A, text: &[u8]) -> Result<(bool, Cursor<'_>), Ear
     let Ok(words) = fields(alloc, title) else {
         return Err(EarlyEnd::NoMemory);
     };
-    let is_wide = version_in(words.as_slice())?;
-    Ok((is_wide, second))
+    let is_third = version_in(words.as_slice())?;
+    Ok((is_third, second))
 }
 
 /// Line 2 is `cpus NR MASK`: how many CPUs there are, and those below 32 that are online.
 #[tactic(auto, unfolding(crate::specs::Head::cpus_at))]
 fn cpus_at<A: Allocator>(
     alloc: A,
-    is_wide: bool,
+    is_third: bool,
     second: Cursor<'_>,
 ) -> Result<((u32, CpuMask), Cursor<'_>), EarlyEnd>
     requires number { second.number ≡ 2 }
     requires used { second.used ≤ 16777216 }
-    ensures value { Sees (λ p. (p.0, cursor_of p.1)) result (cpus_at is_wide (cursor_of second.entry)) }
+    ensures value { Sees (λ p. (p.0, cursor_of p.1)) result (cpus_at is_third (cursor_of second.entry)) }
     ensures within { IfOk result (λ p. (p.1.used ≤ 16777216) × (p.1.number ≡ 3)) }
 {
     let (line, third) = needed(second)?;
     let Ok(words) = fields(alloc, line) else {
         return Err(EarlyEnd::NoMemory);
     };
-    match read_cpus(is_wide, words.as_slice()) {
+    match read_cpus(is_third, words.as_slice()) {
         Ok(cpus) => Ok((cpus, third)),
         Err(cause) => Err(EarlyEnd::Fault(2, cause)),
     }
@@ -324,8 +324,8 @@ pub(crate) fn read_head<A: Allocator + Copy>(alloc: A, text: &[u8]) -> Result<He
     ensures value { Sees (λ h. head_value h) result (head_of (lines_of text.now)) }
     ensures within { IfOk result (λ h. (h.cursor.used ≤ 16777216) × (h.cursor.number ≤ 5)) }
 {
-    let (is_wide, second) = titled(alloc, text)?;
-    let ((cpus, online), third) = match cpus_at(alloc, is_wide, second) {
+    let (is_third, second) = titled(alloc, text)?;
+    let ((cpus, online), third) = match cpus_at(alloc, is_third, second) {
         Ok(found) => found,
         Err(why) => return Err(why),
     };
@@ -343,6 +343,7 @@ pub(crate) fn read_head<A: Allocator + Copy>(alloc: A, text: &[u8]) -> Result<He
             online,
             keys: labels.keys(),
             sites: labels.sites(),
+            is_third,
             without,
         },
         words: words_of(&labels),

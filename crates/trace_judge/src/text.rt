@@ -34,7 +34,7 @@ fn stop_name(event: StopEvent) -> &'static str
     match event {
         StopEvent::Gate => "gate",
         StopEvent::Ungate => "ungate",
-        StopEvent::Open(_) => "open",
+        StopEvent::Open(..) => "open",
         StopEvent::Enter(_) => "enter",
         StopEvent::Ack(_) => "ack",
         StopEvent::Raise(_) => "raise",
@@ -42,7 +42,7 @@ fn stop_name(event: StopEvent) -> &'static str
         StopEvent::On => "on",
         StopEvent::Run(..) => "run",
         StopEvent::Complete(_) => "complete",
-        StopEvent::Collect(_) => "collect",
+        StopEvent::Collect(..) => "collect",
     }
 }
 
@@ -216,15 +216,15 @@ fn write_queues<A: Allocator, B: Allocator + Copy>(
 }
 
 /// A stop that is open.
-fn write_stop<A: Allocator>(out: &mut String<A>, source: u32, stop: &Stop) -> Result<(), AllocError>
-    ensures { OnOk result (string_bytes out.new ≡ string_bytes out.old ++ open_text source stop.now) }
+fn write_stop<A: Allocator>(out: &mut String<A>, number: u32, stop: &Stop) -> Result<(), AllocError>
+    ensures { OnOk result (string_bytes out.new ≡ string_bytes out.old ++ open_text number stop.now) }
 {
     if !stop.is_open {
         return write!(out, "");
     }
     let kind = kind_name(stop.task.kind);
     let phase = stop.phase;
-    write!(out, "stop {source} {kind} {phase} ")?;
+    write!(out, "stop {number} {kind} {phase} ")?;
     write_mask(out, stop.waiting())?;
     writeln!(out, "")
 }
@@ -235,10 +235,10 @@ fn write_stops<A: Allocator, B: Allocator + Copy>(
     out: &mut String<A>,
     state: &State<B>,
 ) -> Result<(), AllocError>
-    ensures { OnOk result (string_bytes out.new ≡ string_bytes out.old ++ texts_below (stop_text state.now) 32) }
+    ensures { OnOk result (string_bytes out.new ≡ string_bytes out.old ++ texts_below (stop_text state.now) 64) }
 {
-    for source in 0..32 {
-        write_stop(out, source, state.stop(source))?;
+    for number in 0..64 {
+        write_stop(out, number, state.stop(number))?;
     }
     Ok(())
 }

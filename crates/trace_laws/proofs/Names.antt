@@ -55,7 +55,7 @@ pub use Rattle.trace_model.specs.Places.{is_batch}
 pub use Rattle.trace_model.specs.Runs.{Runs}
 pub use Rattle.trace_model.specs.State.{StateValue, cpu_at, freed, freed_by, freed_from, place_at, place_reason, slip_in, slipped, stop_at, with_cpu}
 pub use Rattle.trace_model.specs.State.{with_place, with_stop}
-unfoldable pub use Rattle.trace_model.specs.Step.{call_goes, label_goes, stop_goes}
+unfoldable pub use Rattle.trace_model.specs.Step.{call_goes, inside_goes, label_goes, stop_goes}
 pub use Rattle.trace_model.specs.Step.{goes, if_low, key_by, nudge_by, nudged_word, reads_by, site_by, site_word}
 unfoldable pub use Rattle.trace_model.specs.Stop.{acknowledged, collected, completed, entered, first_from, opened, raised, ran_function}
 pub use Rattle.trace_model.specs.Stop.{acked_by, answer_of, answer_wanted, at_last, at_phase, closed, collected_with, first_of, gives, has_run, is_called}
@@ -63,8 +63,8 @@ pub use Rattle.trace_model.specs.Stop.{is_cpu, is_work, late, may_complete, may_
 unfoldable pub use Rattle.trace_model.specs.Stops.{ack_by, collect_by, complete_by, enter_by, gate_by, off_by, on_by, open_by, patch_by, raise_by, run_by}
 unfoldable pub use Rattle.trace_model.specs.Stops.{ungate_by}
 pub use Rattle.trace_model.specs.Stops.{acked, acks_as, acks_at_run, acks_disabled, enter_from, entered_open, gate_with, holds_gate, in_patch, in_round}
-pub use Rattle.trace_model.specs.Stops.{is_store, made_store, may_ack, may_off, may_open, next_store, on_stop, patch_left, patch_over, run_as, stop_of}
-pub use Rattle.trace_model.specs.Stops.{switched, switched_at, switched_on, with_inside, with_irq, with_patch, with_word}
+pub use Rattle.trace_model.specs.Stops.{is_store, made_store, may_ack, may_off, may_open, next_store, on_stop, open_closed, patch_left, patch_over, run_as}
+pub use Rattle.trace_model.specs.Stops.{stop_of, switched, switched_at, switched_on, with_inside, with_irq, with_patch, with_word}
 pub use Rattle.trace_model.specs.declared.call.Call.{Call}
 pub use Rattle.trace_model.specs.declared.call.Current.{Current}
 pub use Rattle.trace_model.specs.declared.call.Place.TheVariants.{Batch, Free, Queue, Run}
@@ -80,7 +80,7 @@ pub use Rattle.trace_model.specs.declared.stop.Stop.{Stop}
 pub use Rattle.trace_model.specs.declared.stop.Task.{Task}
 pub use Rattle.trace_model.specs.declared.without.Setting.{Setting}
 unfoldable pub use Rattle.trace_judge.specs.Head.{cpus_at, head_of, labels_at, titled, without_at, words_of}
-pub use Rattle.trace_judge.specs.Head.{CursorValue, head_with, is_labels, no_labels}
+pub use Rattle.trace_judge.specs.Head.{CursorValue, head_with, is_labels, no_labels, setting_with}
 unfoldable pub use Rattle.trace_judge.specs.Judged.{used_after}
 pub use Rattle.trace_judge.specs.declared.early_end.EarlyEnd.{EarlyEnd}
 unfoldable pub use Rattle.trace_laws.specs.CallEvents.{begins, ends, notes, queue_from, queued, taken_from}

@@ -140,4 +140,4 @@ pub use Rattle.trace_laws.specs.AgreeingCalls.{current_of, nothing_left_out, pla
 pub use Rattle.trace_laws.specs.AgreeingPatches.{HasLeft, Leads, PartIs}
 pub use Rattle.trace_laws.specs.AgreeingStops.{AnswerIs, CpuIs, DraftIs, Drafts, FollowsStops, InsideIs, IsOfCpus, IsSized, MadeIs, MemberIs, OpenIs, PatchIs}
 pub use Rattle.trace_laws.specs.AgreeingStops.{PhaseIs, StopIs, as_i32, given_by, has_called, has_entered, raiser_of, told_work}
-pub use Rattle.trace_laws.specs.ReplayTexts.{AreReadable, AreTold, ArgFits, EventFits, IsTold, ReadsBack, StopFits, trace_text, traced}
+pub use Rattle.trace_laws.specs.ReplayTexts.{AreReadable, AreTold, ArgFits, EventFits, IsTold, OwnStop, ReadsBack, StopFits, trace_text, traced}

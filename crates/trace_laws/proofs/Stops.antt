@@ -4,3 +4,4 @@ pub mod Phases
 pub mod Ends
 pub mod QuietCpus
 pub mod AtRun
+pub mod OpenStops

@@ -1,6 +1,6 @@
 -- A state of the model of events that agrees with the stops of a machine.
 use Rattle.std.specs.Int.{w32, cast_signed}
-use Rattle.std.specs.Prelude.{◌≡◌, ◌≢◌, ℕ, ℤ, pos, ◌<◌, ◌%◌, ◌^◌, Bool, true, false, List, length, Option, Some, None}
+use Rattle.std.specs.Prelude.{◌≡◌, ◌≢◌, ℕ, ℤ, pos, ◌<◌, ◌≤◌, ◌%◌, ◌^◌, Bool, true, false, List, length, Option, Some, None}
 use Rattle.smp_labels.specs.declared.words.LabelWords.{LabelWords}
 use Rattle.smp_mask.specs.Mask.{has}
 use Rattle.smp_words.specs.Size.{cpus}
@@ -123,13 +123,14 @@ pub record CpuIs (p : StopState) (s : StateValue) (past : Past) (cpu : ℕ) : Ty
   pub answer : p.now.inside cpu ≡ None → past.answer ≡ pos 0
   pub reads : past.phase ≡ RUN → p.now.irq cpu ≡ false
 
--- All stops and CPUs.
+-- All stops and CPUs. The stop of a source has the source's number, and no other is open.
 pub record FollowsStops (p : StopState) (at : Word → ℕ) (pasts : List Past) (s : StateValue) : Type 0 where
-  pub stops_are : length s.stops ≡ 32
+  pub stops_are : length s.stops ≡ 64
   pub keys_are : length s.words.keys ≡ 4
   pub sites_are : length s.words.sites ≡ 16
   pub gate : s.gate ≡ p.gate
   pub stops : (source : ℕ) → source < cpus → StopIs (p.now.stop source) (stop_at s source)
+  pub no_more : (number : ℕ) → cpus ≤ number → (stop_at s number).is_open ≡ false
   pub cpus_are : (cpu : ℕ) → CpuIs p s (past_at pasts cpu) cpu
   pub keys : (key : ℕ) → count_at s.words key ≡ at (Key key)
   pub sites : (site : ℕ) → site_at s.words site ≡ at (Site site)

@@ -50,11 +50,11 @@ pub record AreLabels (u : Setting) (words : LabelWords) : Type 0 where
 
 -- A patch is at RUN: all CPUs online are held in its stop.
 pub record IsPatching (u : Setting) (es : List (ℕ × Event)) : Type 0 where
-  pub source : ℕ
+  pub number : ℕ
   pub task : Task
-  pub opened : work source es ≡ Some task
+  pub opened : work number es ≡ Some task
   pub kind_is : task.kind ≡ Patch
-  pub all : (member : ℕ) → member < 32 → has u.online member ≡ true → IsHeld u es source member
+  pub all : (member : ℕ) → member < 32 → has u.online member ≡ true → IsHeld u es number member
 
 -- each site has the kind of its key's state and its branch, but while a patch is at RUN
 abbrev pub LabelsAreLawful : Type 0

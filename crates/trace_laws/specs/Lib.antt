@@ -4,6 +4,7 @@ pub mod CallHistory
 pub mod Places
 pub mod RecordTurns
 pub mod StopEvents
+pub mod OpenStops
 pub mod LawfulLabels
 -- the laws of traces, and of accepted texts
 pub mod Traces

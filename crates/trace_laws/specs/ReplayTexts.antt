@@ -26,6 +26,7 @@ use Rattle.trace_model.specs.declared.event.StopEvent.TheVariants as stops
 use Rattle.trace_model.specs.declared.without.Setting.{Setting}
 use Rattle.smp_replay.specs.Output.{labels_or_none}
 use Rattle.trace_judge.specs.Head.{HeadValue, all_told, head_of, setting_of, words_of}
+use Rattle.trace_judge.specs.Reading.{own_stop}
 use Rattle.trace_judge.specs.Runs.{Told, told_by}
 use Rattle.trace_judge.specs.Verdict.{verdict_of}
 use Rattle.trace_events.specs.Front.{front_text}
@@ -51,13 +52,13 @@ CallFits _ = Unit {0}
 
 -- those of an event of stops, with its phase in range
 abbrev pub StopFits : StopEvent → Type 0
-StopFits (stops.Open t) = (t.mask < 2 ^ 32) × (t.active < 2 ^ 32) × (t.func < 2 ^ 64) × (t.arg < 2 ^ 64)
-StopFits (stops.Enter source) = source < 2 ^ 32
+StopFits (stops.Open number t) = (t.mask < 2 ^ 32) × (t.active < 2 ^ 32) × (t.func < 2 ^ 64) × (t.arg < 2 ^ 64)
+StopFits (stops.Enter number) = number < 2 ^ 32
 StopFits (stops.Ack phase) = (PREPARE ≤ phase) × (phase ≤ EXIT)
 StopFits (stops.Raise phase) = (DISABLE_IRQ ≤ phase) × (phase ≤ OVER)
 StopFits (stops.Run func arg) = (func < 2 ^ 64) × (arg < 2 ^ 64)
 StopFits (stops.Complete answer) = IsAnswer answer
-StopFits (stops.Collect answer) = IsAnswer answer
+StopFits (stops.Collect number answer) = IsAnswer answer
 StopFits _ = Unit {0}
 
 -- its key or site is one of the trace, and a count is one that a key may have
@@ -73,9 +74,13 @@ EventFits u (event.Call call) = CallFits call
 EventFits u (event.Stop stop) = StopFits stop
 EventFits u (event.Label label) = LabelFits u label
 
--- an event may be told in a trace: its CPU is online, and its numbers fit
+-- a stop that a CPU opens or collects has the CPU's number, which the text leaves out
+abbrev pub OwnStop : ℕ → Event → Type 0
+OwnStop cpu e = own_stop cpu e ≡ e
+
+-- an event may be told in a trace: its CPU is online, its numbers fit, and its stop is the CPU's
 abbrev pub IsTold : Setting → ℕ × Event → Type 0
-IsTold u (cpu, e) = (cpu < 32) × (has u.online cpu ≡ true) × EventFits u e
+IsTold u (cpu, e) = (cpu < 32) × (has u.online cpu ≡ true) × EventFits u e × OwnStop cpu e
 
 abbrev pub AreTold : Setting → List (ℕ × Event) → Type 0
 AreTold u events = AllByRecursion (IsTold u) events

@@ -33,7 +33,7 @@ abbrev pub seen_if : Bool → Seen → Seen → Seen
 seen_if here new old = if here then new else old
 
 abbrev pub seen_next : ℕ → Seen → ℕ × Event → Seen
-seen_next cpu v (actor, event.Stop (stops.Enter source)) = seen_if (actor == cpu) (record { inside = Some source; acked = 0; ran = false; irq = v.irq }) v
+seen_next cpu v (actor, event.Stop (stops.Enter number)) = seen_if (actor == cpu) (record { inside = Some number; acked = 0; ran = false; irq = v.irq }) v
 seen_next cpu v (actor, event.Stop (stops.Ack phase)) = seen_if (actor == cpu) (record v { acked = phase }) v
 seen_next cpu v (actor, event.Stop (stops.Run func arg)) = seen_if (actor == cpu) (record v { ran = true }) v
 seen_next cpu v (actor, event.Stop stops.Off) = seen_if (actor == cpu) (record v { irq = false }) v
@@ -49,58 +49,58 @@ seen_from cpu v (e ∷ es) = seen_from cpu (seen_next cpu v e) es
 abbrev pub seen : ℕ → List (ℕ × Event) → Seen
 seen cpu es = seen_from cpu unseen es
 
--- the work that a source opened last
+-- the work that the stop of a number was opened with last
 abbrev pub work_next : ℕ → Option Task → ℕ × Event → Option Task
-work_next source old (actor, event.Stop (stops.Open task)) = if actor == source then Some task else old
-work_next source old _ = old
+work_next number old (actor, event.Stop (stops.Open other task)) = if other == number then Some task else old
+work_next number old _ = old
 
 unfoldable pub work_from : ℕ → Option Task → List (ℕ × Event) → Option Task
-work_from source old [] = old
-work_from source old (e ∷ es) = work_from source (work_next source old e) es
+work_from number old [] = old
+work_from number old (e ∷ es) = work_from number (work_next number old e) es
 
 abbrev pub work : ℕ → List (ℕ × Event) → Option Task
-work source es = work_from source None es
+work number es = work_from number None es
 
 -- A CPU is held with its interrupts off: it is in this stop, it has acknowledged DISABLE_IRQ and not EXIT, and each call
 -- that began on it has ended.
-pub record IsHeld (u : Setting) (es : List (ℕ × Event)) (source cpu : ℕ) : Type 0 where
-  pub inside : (seen cpu es).inside ≡ Some source
+pub record IsHeld (u : Setting) (es : List (ℕ × Event)) (number cpu : ℕ) : Type 0 where
+  pub inside : (seen cpu es).inside ≡ Some number
   pub disabled : DISABLE_IRQ ≤ (seen cpu es).acked
   pub not_past : (seen cpu es).acked ≤ RUN
   pub irq : u.without.switches ≡ false → (seen cpu es).irq ≡ false
   pub quiet : map record_of (begins cpu es) ≡ ends cpu es
 
 -- A CPU is at RUN of a rendezvous: it is active and has not acknowledged RUN, and all of the mask are held.
-pub record IsAtRun (u : Setting) (es : List (ℕ × Event)) (source cpu : ℕ) (task : Task) : Type 0 where
+pub record IsAtRun (u : Setting) (es : List (ℕ × Event)) (number cpu : ℕ) (task : Task) : Type 0 where
   pub active : has task.active cpu ≡ true
   pub acked : (seen cpu es).acked ≡ DISABLE_IRQ
-  pub all : (member : ℕ) → member < 32 → has task.mask member ≡ true → IsHeld u es source member
+  pub all : (member : ℕ) → member < 32 → has task.mask member ≡ true → IsHeld u es number member
 
 -- what a function that runs owes, by the kind of its stop: that of a rendezvous runs only at RUN, and a patch has none
 abbrev pub RunsAt : Kind → Setting → List (ℕ × Event) → ℕ → ℕ → Task → Type 0
-RunsAt One u es source cpu task = Unit {0}
-RunsAt Multi u es source cpu task = IsAtRun u es source cpu task
-RunsAt Patch u es source cpu task = ⊥
+RunsAt One u es number cpu task = Unit {0}
+RunsAt Multi u es number cpu task = IsAtRun u es number cpu task
+RunsAt Patch u es number cpu task = ⊥
 
 -- A function may run now: of the stop that the CPU is in, with the argument that was opened, once.
 pub record MayRun (u : Setting) (es : List (ℕ × Event)) (cpu func arg : ℕ) : Type 0 where
-  pub source : ℕ
+  pub number : ℕ
   pub task : Task
-  pub inside : (seen cpu es).inside ≡ Some source
-  pub opened : work source es ≡ Some task
+  pub inside : (seen cpu es).inside ≡ Some number
+  pub opened : work number es ≡ Some task
   pub func_is : task.func ≡ func
   pub arg_is : task.arg ≡ arg
   pub once : (seen cpu es).ran ≡ false
-  pub at : RunsAt task.kind u es source cpu task
+  pub at : RunsAt task.kind u es number cpu task
 
 -- A patch may store now.
 pub record MayStore (u : Setting) (es : List (ℕ × Event)) (cpu : ℕ) : Type 0 where
-  pub source : ℕ
+  pub number : ℕ
   pub task : Task
-  pub inside : (seen cpu es).inside ≡ Some source
-  pub opened : work source es ≡ Some task
+  pub inside : (seen cpu es).inside ≡ Some number
+  pub opened : work number es ≡ Some task
   pub kind_is : task.kind ≡ Patch
-  pub at : IsAtRun u es source cpu task
+  pub at : IsAtRun u es number cpu task
 
 -- a function that runs may run: whatever event runs it
 abbrev pub FunctionsRunAtRun : Type 0

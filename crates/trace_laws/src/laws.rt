@@ -4,11 +4,12 @@
 ghost use Rattle.trace_laws.specs.Drained.{DrainedEquals};
 ghost use Rattle.trace_laws.specs.LawfulLabels.{LabelsAreLawful, ReadsAreLawful};
 ghost use Rattle.trace_laws.specs.Places.{InOnePlace};
+ghost use Rattle.trace_laws.specs.OpenStops.{GateIsOfOne, StopsOpenOnce};
 ghost use Rattle.trace_laws.specs.StopEvents.{FunctionsRunAtRun, PatchesStoreAtRun};
 ghost use Rattle.trace_laws.specs.AcceptedTexts.{AcceptedAreTraces};
 ghost use Rattle.trace_laws.specs.Traces.{BeginInOrder, BeginOnce, CountsAre, EndOnce, OfEachTrace, IsTrace};
 ghost use Rattle.trace_laws.specs.RecordTurns.{RecordsTakeTurns};
-ghost use Rattle.trace_laws.specs.Targets.{CallsHaveTargets, StopsAreLow};
+ghost use Rattle.trace_laws.specs.Targets.{CallsHaveTargets, StopsAreLow, StopsAreThere};
 ghost use Rattle.trace_model.specs.declared.event.Event.{Event};
 ghost use Rattle.trace_model.specs.declared.without.Setting.{Setting};
 ghost use Rattle.trace_model.specs.State.{StateValue};
@@ -29,10 +30,12 @@ pub fn calls_run_once()
     ensures end { OfEachTrace EndOnce }
 {}
 
-/// A call is queued for another CPU that is online. Events of stops are of the CPUs below 32.
+/// A call is queued for another CPU that is online. What a CPU does in a stop is of the CPUs below 32, and the stop that is opened, entered
+/// or collected is one of the 64.
 pub fn calls_have_targets()
     ensures targets { CallsHaveTargets }
     ensures stops { StopsAreLow }
+    ensures numbers { StopsAreThere }
 {}
 
 /// Calls begin in the order of the queues that a CPU takes: at each `take` the calls that were queued since the one before,
@@ -53,6 +56,13 @@ pub fn drained_runs_equal_queued()
 pub fn records_are_in_one_place()
     ensures turns { RecordsTakeTurns }
     ensures place { (u : Setting) (words : LabelWords) (es : List (ℕ × Event)) (t : StateValue) → IsTrace u words es t → InOnePlace t }
+{}
+
+/// A stop is opened only while it is not open, and entered and collected only while it is. One CPU at a time holds the gate; it
+/// alone releases it, and opens stops where the gate is told.
+pub fn stops_open_once()
+    ensures opens { StopsOpenOnce }
+    ensures gate { GateIsOfOne }
 {}
 
 /// A function runs once, in the stop that its CPU is in, with the argument that was opened. That of a rendezvous runs only at RUN,

@@ -41,7 +41,8 @@ pub fn texts_of_replays_are_lawful()
 {}
 
 /// The trace of any events reads back: the judge reads its head as the script's CPUs and labels, and from its lines just these events,
-/// in their order. The numbers of the events fit their fields, and the text is within the judge's limits.
+/// in their order. The numbers of the events fit their fields, the stop that a CPU opens or collects has the CPU's number, and the text is
+/// within the judge's limits.
 pub fn texts_of_events_read_back()
     ensures { TextsReadBack }
 {}

@@ -273,6 +273,6 @@ runs_locked c = locked_with c.current
 abbrev pub with_interrupts : Bool → CpuState → CpuState
 with_interrupts on c = record c { irq = on }
 
--- it is in the stop of this source, or in none
+-- it is in the stop of this number, or in none
 abbrev pub in_stop : Option ℕ → CpuState → CpuState
-in_stop source c = record c { inside = source }
+in_stop number c = record c { inside = number }

@@ -19,6 +19,6 @@ opening setting words = record {
   cpus = replicate 512 fresh_cpu;
   places = places_free 65536;
   gate = None;
-  stops = replicate 32 (closed setting.online);
+  stops = replicate 64 (closed setting.online);
   words = words;
 }

@@ -19,18 +19,18 @@ pub record StateValue : Type 0 where
   pub stops : List Stop
   pub words : LabelWords
 
--- there are 512 CPUs, 65,536 records and 32 sources of stops
+-- there are 512 CPUs, 65,536 records and 64 stops
 pub record IsState (cpus : List CpuState) (places : List Place) (stops : List Stop) : Type 0 where
   pub cpus_are : length cpus ≡ 512
   pub places_are : length places ≡ 65536
-  pub stops_are : length stops ≡ 32
+  pub stops_are : length stops ≡ 64
 
 -- a CPU, a stop and a record's place
 abbrev pub cpu_at : StateValue → ℕ → CpuState
 cpu_at s cpu = slice_index_or s.cpus cpu fresh_cpu
 
 abbrev pub stop_at : StateValue → ℕ → Stop
-stop_at s source = slice_index_or s.stops source (closed 0)
+stop_at s number = slice_index_or s.stops number (closed 0)
 
 abbrev pub place_at : StateValue → ℕ → Place
 place_at s id = slice_index_or s.places id Free
@@ -40,7 +40,7 @@ abbrev pub with_cpu : ℕ → StateValue → CpuState → StateValue
 with_cpu cpu s c = record s { cpus = slice_set s.cpus cpu c }
 
 abbrev pub with_stop : ℕ → StateValue → Stop → StateValue
-with_stop source s stop = record s { stops = slice_set s.stops source stop }
+with_stop number s stop = record s { stops = slice_set s.stops number stop }
 
 abbrev pub with_place : ℕ → Place → StateValue → StateValue
 with_place id place s = record s { places = slice_set s.places id place }

@@ -47,25 +47,34 @@ call_goes cpu (calls.Unlock id) s = unlock_by cpu id s
 call_goes cpu (calls.Begin id func info) s = begin_by cpu (record { id = id; func = func; info = info }) s
 call_goes cpu (calls.End id) s = end_by cpu id s
 
--- an event of stops
+-- what a CPU does in a stop
+unfoldable pub inside_goes : ℕ → StopEvent → StateValue → Result StateValue Reason
+inside_goes cpu (stops.Enter number) s = enter_by cpu number s
+inside_goes cpu (stops.Ack phase) s = ack_by cpu phase s
+inside_goes cpu (stops.Raise phase) s = raise_by cpu phase s
+inside_goes cpu stops.Off s = off_by cpu s
+inside_goes cpu stops.On s = on_by cpu s
+inside_goes cpu (stops.Run func arg) s = run_by cpu func arg s
+inside_goes cpu (stops.Complete answer) s = complete_by cpu answer s
+inside_goes cpu _ s = Ok s
+
+-- it is one of the CPUs below 32
+abbrev pub if_low : ℕ → Result StateValue Reason → Result StateValue Reason
+if_low cpu made = if nat_lt cpu 32 then made else Err reason.NoSuchWork
+
+-- an event of stops: any CPU takes and gives the gate, opens and collects
 unfoldable pub stop_goes : ℕ → StopEvent → StateValue → Result StateValue Reason
 stop_goes cpu stops.Gate s = gate_by cpu s
 stop_goes cpu stops.Ungate s = ungate_by cpu s
-stop_goes cpu (stops.Open task) s = open_by cpu task s
-stop_goes cpu (stops.Enter source) s = enter_by cpu source s
-stop_goes cpu (stops.Ack phase) s = ack_by cpu phase s
-stop_goes cpu (stops.Raise phase) s = raise_by cpu phase s
-stop_goes cpu stops.Off s = off_by cpu s
-stop_goes cpu stops.On s = on_by cpu s
-stop_goes cpu (stops.Run func arg) s = run_by cpu func arg s
-stop_goes cpu (stops.Complete answer) s = complete_by cpu answer s
-stop_goes cpu (stops.Collect answer) s = collect_by cpu answer s
+stop_goes cpu (stops.Open number task) s = open_by cpu number task s
+stop_goes cpu (stops.Collect number answer) s = collect_by number answer s
+stop_goes cpu stop s = if_low cpu (inside_goes cpu stop s)
 
 -- the word of a site that jumps, or does not
 abbrev pub site_word : Bool → ℕ
 site_word jumps = if jumps then 1 else 0
 
--- an event of keys and sites
+-- an event of keys and sites, of a CPU below 32
 unfoldable pub label_goes : ℕ → LabelEvent → StateValue → Result StateValue Reason
 label_goes cpu (labels.Set key count) s = patch_by cpu (Key key) count s
 label_goes cpu (labels.Turn site jumps) s = patch_by cpu (Site site) (site_word jumps) s
@@ -73,14 +82,10 @@ label_goes cpu (labels.Key key on) s = key_by cpu key on s >>= λ u. Ok s
 label_goes cpu (labels.Site site jumps) s = site_by cpu site jumps s >>= λ u. Ok s
 label_goes cpu (labels.Nudge key up) s = nudge_by cpu key up s
 
--- stops, keys and sites are those of the CPUs below 32
-abbrev pub if_low : ℕ → Result StateValue Reason → Result StateValue Reason
-if_low cpu made = if nat_lt cpu 32 then made else Err reason.NoSuchWork
-
 -- an event of a CPU: the state after it, or the first of its premises that does not hold
 abbrev pub goes : ℕ → Event → StateValue → Result StateValue Reason
 goes cpu (event.Call (calls.Queue id to class func info)) s = queue_by (record { source = cpu; id = id; class = class; func = func; info = info }) to s
 goes cpu (event.Call calls.Take) s = take_by cpu s
 goes cpu (event.Call call) s = call_goes cpu call s
-goes cpu (event.Stop stop) s = if_low cpu (stop_goes cpu stop s)
+goes cpu (event.Stop stop) s = stop_goes cpu stop s
 goes cpu (event.Label label) s = if_low cpu (label_goes cpu label s)

@@ -206,6 +206,6 @@ abbrev pub collected_with : Option ℕ → ℤ → Stop → Result Stop Reason
 collected_with (Some c) answer stop = Err (reason.NotCompleted c)
 collected_with None answer stop = if gives stop answer then Ok (record stop { is_open = false }) else Err (reason.AnswersDoNotGive answer)
 
--- the source collects the result, and the stop is closed
+-- the result is collected, and the stop is closed
 unfoldable pub collected : ℤ → Stop → Result Stop Reason
 collected answer stop = collected_with (unfinished stop) answer stop

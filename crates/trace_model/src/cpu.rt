@@ -130,7 +130,7 @@ impl<A: Allocator + Copy> Cpu<A> {
         self.pending = true;
     }
 
-    /// The source of the stop that it is in.
+    /// The number of the stop that it is in.
     pub(crate) fn stop(&self) -> Option<u32>
         ensures { result ≡ self.now.inside }
     {
@@ -151,11 +151,11 @@ impl<A: Allocator + Copy> Cpu<A> {
         self.irq = on;
     }
 
-    /// It is in the stop of this source, or in none.
-    pub(crate) fn put_stop(&mut self, source: Option<u32>)
-        ensures { self.new ≡ in_stop source self.old }
+    /// It is in the stop of this number, or in none.
+    pub(crate) fn put_stop(&mut self, number: Option<u32>)
+        ensures { self.new ≡ in_stop number self.old }
     {
-        self.inside = source;
+        self.inside = number;
     }
 
     /// How many calls it has queued for a CPU.

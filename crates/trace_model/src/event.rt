@@ -25,7 +25,9 @@ pub enum CallEvent {
 pub enum StopEvent {
     Gate,
     Ungate,
-    Open(Task),
+    /// The stop of this number is opened.
+    Open(u32, Task),
+    /// A CPU is in the stop of this number.
     Enter(u32),
     Ack(u32),
     Raise(u32),
@@ -34,7 +36,8 @@ pub enum StopEvent {
     /// The function of a stop is entered, with its number and argument.
     Run(u64, u64),
     Complete(i32),
-    Collect(i32),
+    /// The result of the stop of this number is collected.
+    Collect(u32, i32),
 }
 
 /// An event of keys and sites.

@@ -5,7 +5,7 @@
 //! - `state`, `open`: The state of the model, and how it begins.
 //! - `step`: One event; `calls`, `stops`: events of calls and of stops.
 //! - `cpu`, `cpu::handling`: One CPU, and how it handles an interrupt; `cpus`: each CPU of the state.
-//! - `stop`, `sources`: One stop, and each stop of the state.
+//! - `stop`, `each_stop`: One stop, and each stop of the state.
 //! - `labels`: Keys, sites, and what a patch is to store.
 //! - `ending`: What is told of the state at the end.
 //! - `reason`, `halt`: Why an event is none.
@@ -15,13 +15,13 @@ pub mod call;
 mod calls;
 mod cpu;
 mod cpus;
+mod each_stop;
 mod ending;
 pub mod event;
 pub mod halt;
 mod labels;
 pub mod open;
 pub mod reason;
-mod sources;
 pub mod state;
 pub mod step;
 pub mod stop;

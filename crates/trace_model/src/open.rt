@@ -27,10 +27,10 @@ fn fresh_cpus<A: Allocator + Copy>(alloc: A) -> Result<Vec<Cpu<A>, A>, AllocErro
 
 /// Stops that are not open.
 fn closed_stops<A: Allocator>(alloc: A, mask: CpuMask) -> Result<Vec<Stop, A>, AllocError>
-    ensures { IfOk result (λ stops. stops.items ≡ replicate 32 (closed mask)) }
+    ensures { IfOk result (λ stops. stops.items ≡ replicate 64 (closed mask)) }
 {
-    let mut stops = Vec::with_capacity(alloc, 32)?;
-    for _source in 0..32u32 {
+    let mut stops = Vec::with_capacity(alloc, 64)?;
+    for _number in 0..64u32 {
         stops.push(Stop::closed(mask))?;
     }
     Ok(stops)

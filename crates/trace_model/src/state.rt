@@ -22,7 +22,7 @@ pub struct State<A: Allocator> {
     /// Where each record is.
     pub(crate) places: Vec<Place, A>,
     pub(crate) gate: Option<u32>,
-    /// One for each source.
+    /// One for each number that a stop can have.
     pub(crate) stops: Vec<Stop, A>,
     pub(crate) words: LabelWords,
 }

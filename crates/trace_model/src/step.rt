@@ -3,7 +3,7 @@
 ghost use Rattle.std.specs.Prelude.{◌≡◌, ◌<◌};
 ghost use Rattle.trace_model.specs.Calls.{Steps};
 ghost use Rattle.trace_model.specs.Cpu.{Makes};
-ghost use Rattle.trace_model.specs.Step.{call_goes, goes, key_by, label_goes, nudge_by, nudged_word, reads_by, site_by, stop_goes};
+ghost use Rattle.trace_model.specs.Step.{call_goes, goes, inside_goes, key_by, label_goes, nudge_by, nudged_word, reads_by, site_by, stop_goes};
 
 use crate::call::Call;
 use crate::cpu::handling::Entry;
@@ -85,24 +85,38 @@ impl<A: Allocator + Copy> State<A> {
         }
     }
 
-    /// An event of stops.
-    #[tactic(auto, unfolding(crate::specs::Step::stop_goes))]
-    fn stop_step(&mut self, cpu: u32, event: StopEvent) -> Result<(), Reason>
+    /// What a CPU does in a stop.
+    #[tactic(auto, unfolding(crate::specs::Step::inside_goes))]
+    fn inside_step(&mut self, cpu: u32, event: StopEvent) -> Result<(), Reason>
         requires { cpu < 32 }
-        ensures { Makes result self.new (stop_goes cpu event self.old) }
+        ensures { Makes result self.new (inside_goes cpu event self.old) }
     {
         match event {
-            StopEvent::Gate => self.take_gate(cpu),
-            StopEvent::Ungate => self.give_gate(cpu),
-            StopEvent::Open(task) => self.open(cpu, task),
-            StopEvent::Enter(source) => self.enter(cpu, source),
+            StopEvent::Enter(number) => self.enter(cpu, number),
             StopEvent::Ack(phase) => self.ack(cpu, phase),
             StopEvent::Raise(phase) => self.raise(cpu, phase),
             StopEvent::Off => self.off(cpu),
             StopEvent::On => self.on(cpu),
             StopEvent::Run(func, arg) => self.run(cpu, func, arg),
             StopEvent::Complete(answer) => self.complete(cpu, answer),
-            StopEvent::Collect(answer) => self.collect(cpu, answer),
+            StopEvent::Gate | StopEvent::Ungate | StopEvent::Open(..) | StopEvent::Collect(..) => {
+                Ok(())
+            }
+        }
+    }
+
+    /// An event of stops.
+    #[tactic(auto, unfolding(crate::specs::Step::stop_goes))]
+    fn stop_step(&mut self, cpu: u32, event: StopEvent) -> Result<(), Reason>
+        ensures { Makes result self.new (stop_goes cpu event self.old) }
+    {
+        match event {
+            StopEvent::Gate => self.take_gate(cpu),
+            StopEvent::Ungate => self.give_gate(cpu),
+            StopEvent::Open(number, task) => self.open(cpu, number, task),
+            StopEvent::Collect(number, answer) => self.collect(number, answer),
+            _ if cpu >= 32 => Err(Reason::NoSuchWork),
+            _ => self.inside_step(cpu, event),
         }
     }
 
@@ -153,8 +167,8 @@ impl<A: Allocator + Copy> State<A> {
             }
             Event::Call(CallEvent::Take) => return self.take(alloc, cpu),
             Event::Call(event) => self.call_step(cpu, event),
-            Event::Stop(_) | Event::Label(_) if cpu >= 32 => Err(Reason::NoSuchWork),
             Event::Stop(event) => self.stop_step(cpu, event),
+            Event::Label(_) if cpu >= 32 => Err(Reason::NoSuchWork),
             Event::Label(event) => self.label_step(cpu, event),
         };
         match made {

@@ -36,7 +36,7 @@ pub struct Patch {
     pub at_edge: bool,
 }
 
-/// The stop of one source.
+/// The stop of one number.
 #[derive(Clone, Copy)]
 pub struct Stop {
     pub is_open: bool,
@@ -132,7 +132,7 @@ impl Stop {
         }
     }
 
-    /// Opens the stop of a source that is not open, with such a work of CPUs that are online.
+    /// Opens a stop that is not open, with such a work of CPUs that are online.
     #[tactic(auto, unfolding(crate::specs::Stop::opened))]
     pub(crate) fn open(&mut self, setting: &Setting, task: Task) -> Result<(), Reason>
         ensures { Makes result self.new (opened setting.now task) }
@@ -360,7 +360,7 @@ impl Stop {
         }
     }
 
-    /// The source collects the result, and the stop is closed.
+    /// The result is collected, and the stop is closed.
     #[tactic(auto, unfolding(crate::specs::Stop::collected))]
     pub(crate) fn collect(&mut self, answer: i32) -> Result<(), Reason>
         ensures { Makes result self.new (collected answer self.old) }

@@ -51,35 +51,37 @@ impl<A: Allocator + Copy> State<A> {
         Ok(())
     }
 
-    /// A source opens its stop.
+    /// A CPU opens the stop of a number.
     #[tactic(auto, unfolding(crate::specs::Stops::open_by))]
-    pub(crate) fn open(&mut self, source: u32, task: Task) -> Result<(), Reason>
-        requires { source < 32 }
-        ensures { Makes result self.new (open_by source task self.old) }
+    pub(crate) fn open(&mut self, cpu: u32, number: u32, task: Task) -> Result<(), Reason>
+        ensures { Makes result self.new (open_by cpu number task self.old) }
     {
-        if self.stop(source).is_open {
-            return Err(Reason::StopOpen(source));
+        if number >= 64 {
+            return Err(Reason::NoSuchWork);
+        }
+        if self.stop(number).is_open {
+            return Err(Reason::StopOpen(number));
         }
         if !self.setting.without.gate {
-            self.holds_gate(source)?;
+            self.holds_gate(cpu)?;
         }
-        self.open_stop(source, task)
+        self.open_stop(number, task)
     }
 
-    /// A CPU enters the stop of a source.
+    /// A CPU enters the stop of a number.
     #[tactic(auto, unfolding(crate::specs::Stops::enter_by))]
-    pub(crate) fn enter(&mut self, cpu: u32, source: u32) -> Result<(), Reason>
+    pub(crate) fn enter(&mut self, cpu: u32, number: u32) -> Result<(), Reason>
         requires { cpu < 32 }
-        ensures { Makes result self.new (enter_by cpu source self.old) }
+        ensures { Makes result self.new (enter_by cpu number self.old) }
     {
         if let Ok(inside) = self.stop_of(cpu) {
             return Err(Reason::IsInStop(cpu, inside));
         }
-        if source >= 32 || !self.stop(source).is_open {
-            return Err(Reason::StopNotOpen(source));
+        if number >= 64 || !self.stop(number).is_open {
+            return Err(Reason::StopNotOpen(number));
         }
-        self.enter_stop(source, cpu)?;
-        self.put_inside(cpu, Some(source));
+        self.enter_stop(number, cpu)?;
+        self.put_inside(cpu, Some(number));
         Ok(())
     }
 
@@ -87,36 +89,36 @@ impl<A: Allocator + Copy> State<A> {
     fn round_of(&self, cpu: u32) -> Result<u32, Reason>
         requires { cpu < 32 }
         ensures value { result ≡ in_round cpu self.now }
-        ensures below { IfOk result (λ source. source < 32) }
+        ensures below { IfOk result (λ number. number < 64) }
     {
-        let source = self.stop_of(cpu)?;
-        match self.stop(source).task.kind {
-            Kind::One => Err(Reason::StopIsOf(source, Kind::One)),
-            Kind::Multi | Kind::Patch => Ok(source),
+        let number = self.stop_of(cpu)?;
+        match self.stop(number).task.kind {
+            Kind::One => Err(Reason::StopIsOf(number, Kind::One)),
+            Kind::Multi | Kind::Patch => Ok(number),
         }
     }
 
     /// What is left of the patch of a stop, and its next store.
-    fn next_store(&self, source: u32) -> (Patch, Option<(Place, u64)>)
-        requires { source < 32 }
-        ensures patch { result.0 ≡ patch_left source self.now }
-        ensures next { result.1 ≡ next_store source self.now }
+    fn next_store(&self, number: u32) -> (Patch, Option<(Place, u64)>)
+        requires { number < 64 }
+        ensures patch { result.0 ≡ patch_left number self.now }
+        ensures next { result.1 ≡ next_store number self.now }
     {
-        let stop = self.stop(source);
+        let stop = self.stop(number);
         let patch = patch_now(&self.words, stop);
         let next = front_of(&self.words, stop.task.func, &patch);
         (patch, next)
     }
 
     /// Refuses where an active CPU may not acknowledge RUN: its function has not run, or its patch is not over.
-    fn acks_at_run(&mut self, cpu: u32, source: u32) -> Result<(), Reason>
-        requires { source < 32 }
-        ensures { Makes result self.new (acks_at_run cpu source self.old) }
+    fn acks_at_run(&mut self, cpu: u32, number: u32) -> Result<(), Reason>
+        requires { number < 64 }
+        ensures { Makes result self.new (acks_at_run cpu number self.old) }
     {
-        match self.stop(source).task.kind {
-            Kind::Patch => self.ends_patch(source),
+        match self.stop(number).task.kind {
+            Kind::Patch => self.ends_patch(number),
             Kind::One | Kind::Multi => {
-                if !self.stop(source).has_run(cpu) {
+                if !self.stop(number).has_run(cpu) {
                     return Err(Reason::FunctionHasNotRun);
                 }
                 Ok(())
@@ -125,33 +127,33 @@ impl<A: Allocator + Copy> State<A> {
     }
 
     /// Refuses where the patch of a stop is not over.
-    fn ends_patch(&mut self, source: u32) -> Result<(), Reason>
-        requires { source < 32 }
-        ensures { Makes result self.new (patch_over (next_store source self.old) source (patch_left source self.old) self.old) }
+    fn ends_patch(&mut self, number: u32) -> Result<(), Reason>
+        requires { number < 64 }
+        ensures { Makes result self.new (patch_over (next_store number self.old) number (patch_left number self.old) self.old) }
     {
-        let (patch, next) = self.next_store(source);
+        let (patch, next) = self.next_store(number);
         match next {
             Some(next) => Err(to_be(next)),
             None => {
-                self.put_patch(source, patch);
+                self.put_patch(number, patch);
                 Ok(())
             }
         }
     }
 
     /// Refuses where a CPU may not acknowledge a phase.
-    fn may_ack(&mut self, cpu: u32, source: u32, phase: u32) -> Result<(), Reason>
+    fn may_ack(&mut self, cpu: u32, number: u32, phase: u32) -> Result<(), Reason>
         requires cpu { cpu < 32 }
-        requires source { source < 32 }
-        ensures { Makes result self.new (may_ack cpu source phase self.old) }
+        requires number { number < 64 }
+        ensures { Makes result self.new (may_ack cpu number phase self.old) }
     {
-        self.stop(source).at_phase(cpu, phase)?;
+        self.stop(number).at_phase(cpu, phase)?;
         if phase == DISABLE_IRQ {
             self.acks_disabled(cpu)?;
             return Ok(());
         }
-        if phase == RUN && self.stop(source).is_active(cpu) {
-            return self.acks_at_run(cpu, source);
+        if phase == RUN && self.stop(number).is_active(cpu) {
+            return self.acks_at_run(cpu, number);
         }
         Ok(())
     }
@@ -172,10 +174,10 @@ impl<A: Allocator + Copy> State<A> {
     }
 
     /// Where switches are left out, interrupts go off with DISABLE_IRQ, and on with EXIT but of the one that is to raise it.
-    fn switch(&mut self, cpu: u32, source: u32, phase: u32)
+    fn switch(&mut self, cpu: u32, number: u32, phase: u32)
         requires cpu { cpu < 32 }
-        requires source { source < 32 }
-        ensures { self.new ≡ switched cpu source phase self.old }
+        requires number { number < 64 }
+        ensures { self.new ≡ switched cpu number phase self.old }
     {
         if !self.setting.without.switches {
             return;
@@ -183,7 +185,7 @@ impl<A: Allocator + Copy> State<A> {
         if phase == DISABLE_IRQ {
             self.put_irq(cpu, false);
         } else if phase == EXIT {
-            let raises = self.stop(source).is_raiser(cpu);
+            let raises = self.stop(number).is_raiser(cpu);
             self.put_irq(cpu, !raises);
         }
     }
@@ -194,10 +196,10 @@ impl<A: Allocator + Copy> State<A> {
         requires { cpu < 32 }
         ensures { Makes result self.new (ack_by cpu phase self.old) }
     {
-        let source = self.round_of(cpu)?;
-        self.may_ack(cpu, source, phase)?;
-        self.acknowledge(source, cpu, phase);
-        self.switch(cpu, source, phase);
+        let number = self.round_of(cpu)?;
+        self.may_ack(cpu, number, phase)?;
+        self.acknowledge(number, cpu, phase);
+        self.switch(cpu, number, phase);
         Ok(())
     }
 
@@ -207,8 +209,8 @@ impl<A: Allocator + Copy> State<A> {
         requires { cpu < 32 }
         ensures { Makes result self.new (raise_by cpu phase self.old) }
     {
-        let source = self.round_of(cpu)?;
-        self.raise_stop(source, cpu, phase)?;
+        let number = self.round_of(cpu)?;
+        self.raise_stop(number, cpu, phase)?;
         self.switch_on(cpu, phase);
         Ok(())
     }
@@ -224,15 +226,15 @@ impl<A: Allocator + Copy> State<A> {
     }
 
     /// Refuses where a CPU may not turn its interrupts off.
-    fn may_off(&self, cpu: u32, source: u32) -> Result<(), Reason>
+    fn may_off(&self, cpu: u32, number: u32) -> Result<(), Reason>
         requires cpu { cpu < 32 }
-        requires source { source < 32 }
-        ensures { result ≡ may_off cpu source self.now }
+        requires number { number < 64 }
+        ensures { result ≡ may_off cpu number self.now }
     {
         if !self.has_irq(cpu) {
             return Err(Reason::InterruptsOff);
         }
-        self.stop(source).at_phase(cpu, DISABLE_IRQ)?;
+        self.stop(number).at_phase(cpu, DISABLE_IRQ)?;
         self.handles_nothing(cpu)
     }
 
@@ -242,8 +244,8 @@ impl<A: Allocator + Copy> State<A> {
         requires { cpu < 32 }
         ensures { Makes result self.new (off_by cpu self.old) }
     {
-        let source = self.round_of(cpu)?;
-        self.may_off(cpu, source)?;
+        let number = self.round_of(cpu)?;
+        self.may_off(cpu, number)?;
         self.put_irq(cpu, false);
         Ok(())
     }
@@ -254,11 +256,11 @@ impl<A: Allocator + Copy> State<A> {
         requires { cpu < 32 }
         ensures { Makes result self.new (on_by cpu self.old) }
     {
-        let source = self.round_of(cpu)?;
+        let number = self.round_of(cpu)?;
         if self.has_irq(cpu) {
             return Err(Reason::InterruptsOn);
         }
-        self.stop(source).through(cpu)?;
+        self.stop(number).through(cpu)?;
         self.put_irq(cpu, true);
         Ok(())
     }
@@ -269,10 +271,10 @@ impl<A: Allocator + Copy> State<A> {
         requires { cpu < 32 }
         ensures { Makes result self.new (run_by cpu func arg self.old) }
     {
-        let source = self.stop_of(cpu)?;
-        match self.stop(source).task.kind {
-            Kind::Patch => Err(Reason::StopIsOf(source, Kind::Patch)),
-            Kind::One | Kind::Multi => self.run_stop(source, cpu, func, arg),
+        let number = self.stop_of(cpu)?;
+        match self.stop(number).task.kind {
+            Kind::Patch => Err(Reason::StopIsOf(number, Kind::Patch)),
+            Kind::One | Kind::Multi => self.run_stop(number, cpu, func, arg),
         }
     }
 
@@ -282,43 +284,42 @@ impl<A: Allocator + Copy> State<A> {
         requires { cpu < 32 }
         ensures { Makes result self.new (complete_by cpu answer self.old) }
     {
-        let source = self.stop_of(cpu)?;
+        let number = self.stop_of(cpu)?;
         let irq = self.has_irq(cpu);
-        self.complete_stop(source, cpu, answer, irq)?;
+        self.complete_stop(number, cpu, answer, irq)?;
         self.put_inside(cpu, None);
         Ok(())
     }
 
-    /// A source collects the result of its stop.
+    /// The result of a stop is collected.
     #[tactic(auto, unfolding(crate::specs::Stops::collect_by))]
-    pub(crate) fn collect(&mut self, source: u32, answer: i32) -> Result<(), Reason>
-        requires { source < 32 }
-        ensures { Makes result self.new (collect_by source answer self.old) }
+    pub(crate) fn collect(&mut self, number: u32, answer: i32) -> Result<(), Reason>
+        ensures { Makes result self.new (collect_by number answer self.old) }
     {
-        if !self.stop(source).is_open {
-            return Err(Reason::StopNotOpen(source));
+        if number >= 64 || !self.stop(number).is_open {
+            return Err(Reason::StopNotOpen(number));
         }
-        self.collect_stop(source, answer)
+        self.collect_stop(number, answer)
     }
 
     /// The patch that a CPU makes: it is the active one, at RUN.
     fn patch_of(&self, cpu: u32) -> Result<u32, Reason>
         requires { cpu < 32 }
         ensures value { result ≡ in_patch cpu self.now }
-        ensures below { IfOk result (λ source. source < 32) }
+        ensures below { IfOk result (λ number. number < 64) }
     {
-        let source = self.stop_of(cpu)?;
-        let stop = self.stop(source);
+        let number = self.stop_of(cpu)?;
+        let stop = self.stop(number);
         match stop.task.kind {
-            Kind::One => return Err(Reason::StopIsOf(source, Kind::One)),
-            Kind::Multi => return Err(Reason::StopIsOf(source, Kind::Multi)),
+            Kind::One => return Err(Reason::StopIsOf(number, Kind::One)),
+            Kind::Multi => return Err(Reason::StopIsOf(number, Kind::Multi)),
             Kind::Patch => {}
         }
         if !stop.is_active(cpu) {
             return Err(Reason::NotActive(cpu));
         }
         stop.at_phase(cpu, RUN)?;
-        Ok(source)
+        Ok(number)
     }
 
     /// A patch makes a store.
@@ -327,16 +328,16 @@ impl<A: Allocator + Copy> State<A> {
         requires { cpu < 32 }
         ensures { Makes result self.new (patch_by cpu place word self.old) }
     {
-        let source = self.patch_of(cpu)?;
-        self.make_store(source, place, word)
+        let number = self.patch_of(cpu)?;
+        self.make_store(number, place, word)
     }
 
     /// The patch of a stop makes the store that is next.
-    fn make_store(&mut self, source: u32, place: Place, word: u64) -> Result<(), Reason>
-        requires { source < 32 }
-        ensures { Makes result self.new (made_store (next_store source self.old) source (patch_left source self.old) place word self.old) }
+    fn make_store(&mut self, number: u32, place: Place, word: u64) -> Result<(), Reason>
+        requires { number < 64 }
+        ensures { Makes result self.new (made_store (next_store number self.old) number (patch_left number self.old) place word self.old) }
     {
-        let (patch, next) = self.next_store(source);
+        let (patch, next) = self.next_store(number);
         let Some(next) = next else {
             return Err(Reason::PatchOver);
         };
@@ -344,7 +345,7 @@ impl<A: Allocator + Copy> State<A> {
             return Err(to_be(next));
         }
         self.store(place, word);
-        self.put_patch(source, popped(&patch, place));
+        self.put_patch(number, popped(&patch, place));
         Ok(())
     }
 

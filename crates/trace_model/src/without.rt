@@ -31,6 +31,8 @@ pub struct Setting {
     pub online: CpuMask,
     pub keys: u32,
     pub sites: u32,
+    /// Whether it is of version 3, where stops have numbers of their own. Else each has that of the CPU that opens it.
+    pub is_third: bool,
     pub without: Without,
 }
 

@@ -1,7 +1,7 @@
 -- What a picture says of a kernel's event, by the kernel's names.
 use Rattle.std.specs.Prelude.{ℕ, ◌/◌, ◌%◌, List, [], ◌++◌, codes, min, length, take}
 use Rattle.std.specs.Fmt.{decimal}
-use Rattle.trace_events.specs.Text.{event_text as numbered_text}
+use Rattle.trace_events.specs.Text.{numbered_text}
 use Rattle.trace_ftrace.specs.Names.{NamesValue, csd_text, function_text}
 use Rattle.trace_ftrace.specs.declared.told.Told.{Told}
 use Rattle.trace_model.specs.declared.event.CallEvent.{CallEvent}

@@ -3,7 +3,7 @@ use Rattle.std.specs.Prelude.{◌≡◌, ℕ, ◌-◌, List, [], ◌∷◌, ◌+
 use Rattle.std.specs.Fmt.{decimal}
 use Rattle.std.specs.List.{flat_map, slice_get}
 use Rattle.smp_script.specs.Lines.{parts_of}
-use Rattle.trace_events.specs.Text.{line_text}
+use Rattle.trace_events.specs.Text.{numbered_line}
 use Rattle.trace_judge.specs.Traces.{IsRuled}
 use Rattle.trace_judge.specs.declared.trace.Ruling.{Ruling}
 use Rattle.trace_ftrace.specs.Kept.{KeptValue}
@@ -41,7 +41,7 @@ shown told = take (shown_count told start) told
 
 -- the line of an event: the number of the line that tells it, its CPU, and the event
 abbrev pub event_line : Told → List ℕ
-event_line x = decimal x.line ++ codes " " ++ line_text x.cpu x.event
+event_line x = decimal x.line ++ codes " " ++ numbered_line x.cpu x.event
 
 -- the line that tells an event, of these lines
 abbrev pub told_by : List (List ℕ) → Told → List ℕ

@@ -2,7 +2,7 @@
 
 ghost use Rattle.std.specs.Prelude.{◌≡◌, ℕ, List, [], ◌∷◌, ◌++◌, codes};
 ghost use Rattle.std.specs.Fmt.{decimal};
-ghost use Rattle.trace_events.specs.Text.{event_text};
+ghost use Rattle.trace_events.specs.Text.{numbered_text};
 ghost use Rattle.trace_ftrace.specs.declared.told.Told.{Told};
 ghost use Rattle.trace_model.specs.declared.event.Event.{Event};
 ghost use Rattle.trace_page.specs.Escapes.{escaped};
@@ -28,7 +28,7 @@ pub fn pages_have_all_events()
 /// that could end the data, or that can't be printed, has a backslash and the three digits of its number in its place.
 pub fn lines_have_what_is_told()
     ensures events { (l c t : ℕ) (e : Event) → event_line (record { line = l; cpu = c; time = t; event = e })
-        ≡ decimal l ++ codes " " ++ (decimal c ++ codes " " ++ event_text e ++ codes "\n") }
+        ≡ decimal l ++ codes " " ++ (decimal c ++ codes " " ++ numbered_text e ++ codes "\n") }
     ensures first { (e : Event) (c t : ℕ) → told_by (parts_of 10 (codes "one\ntwo\n")) (record { line = 1; cpu = c; time = t; event = e }) ≡ codes "one" }
     ensures second { (e : Event) (c t : ℕ) → told_by (parts_of 10 (codes "one\ntwo\n")) (record { line = 2; cpu = c; time = t; event = e }) ≡ codes "two" }
     ensures bytes { escaped (codes "a <b>\\\t&~\n") ≡ codes "a \\060b>\\092\\009&~\n" }

@@ -15,7 +15,7 @@ use crate::shown::shown_count;
 use smp_mask::SmpError;
 use smp_script::line::parts;
 use std::alloc::{AllocError, Allocator};
-use trace_events::text::write_line;
+use trace_events::text::write_numbered_line;
 use trace_ftrace::text::judge_kernel;
 use trace_ftrace::told::Told;
 use trace_ftrace::verdict::read_told;
@@ -120,7 +120,7 @@ fn write_event<A: Allocator>(out: &mut String<A>, told: &Told) -> Result<(), All
 {
     let line = told.line;
     write!(out, "{line} ")?;
-    write_line(out, told.cpu, told.event)
+    write_numbered_line(out, told.cpu, told.event)
 }
 
 /// The lines of events.

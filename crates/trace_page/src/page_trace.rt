@@ -50,9 +50,12 @@ const left = new Set(isKernel ? ['gate', 'interrupts', 'order', 'raises', 'switc
 const [keyCount = '0', items = '-'] = isKernel ? [] : headOf('labels');
 const sites = items === '-' ? [] : items.split(',').map((item) => item.split(':').map(Number));
 
+// Before version 3 a stop has the number of the CPU that opens it.
+const hasNumbers = isKernel || lines[0] === 'smp 3 trace';
 function eventOf(text, number) {
   const [line, cpu, name, ...args] = text.split(' ');
   const told = [name, ...args].join(' ');
+  if (!hasNumbers && (name === 'open' || name === 'collect')) args.unshift(cpu);
   return { number, line: Number(line), row: isKernel ? number : line - 1, cpu: Number(cpu), name, args, told, isRefused: false };
 }
 const events = rows.map(eventOf);
@@ -84,7 +87,7 @@ function runs(cpu, call, progress) {
 // A record that is seen free: an unlock that is left out has unlocked it.
 function slip(state, id) {
   for (const cpu of left.has('unlocks') ? state.cpus.values() : []) {
-    const call = (left.has('order') ? cpu.queue : cpu.batch.slice(0, 1)).find((one) => one.id === id && one.kind === 'async');
+    const call = (left.has('order') ? cpu.queue : cpu.batch.slice(0, 1)).find((one) => one.id === id && one.kind !== 'sync');
     if (call && !cpu.current) runs(cpu, call, 'is unlocked');
   }
 }
@@ -115,10 +118,10 @@ const acts = {
   gate(state, cpu, event) { state.gate = event.cpu; },
   ungate(state) { state.gate = null; },
   open(state, cpu, event) {
-    const { cpu: source, args: [kind, mask, active, func, arg] } = event;
+    const [number, kind, mask, active, func, arg] = event.args;
     const lists = { acked: new Map(), ran: new Set(), answers: new Map() };
     const task = { kind, mask: listed(mask), active: listed(active), what: whatOf(event, `function ${func}, argument ${arg}`) };
-    state.stops.set(source, { ...task, ...lists, phase: kind === 'one' ? 0 : 1, raiser: null });
+    state.stops.set(Number(number), { ...task, ...lists, source: event.cpu, phase: kind === 'one' ? 0 : 1, raiser: null });
   },
   enter(state, cpu, event) { cpu.inside = Number(event.args[0]); },
   ack(state, cpu, event) {
@@ -138,7 +141,7 @@ const acts = {
   on(state, cpu) { cpu.irq = true; },
   run(state, cpu, event) { stopIn(state, cpu).ran.add(event.cpu); },
   complete(state, cpu, event) { stopIn(state, cpu).answers.set(event.cpu, event.args[0]); cpu.inside = null; },
-  collect(state, cpu, event) { state.stops.delete(event.cpu); },
+  collect(state, cpu, { args: [number] }) { state.stops.delete(Number(number)); },
   set(state, cpu, { args: [key, count] }) { state.keys[key] = Number(count); },
   turn(state, cpu, { args: [site, kind] }) { state.kinds[site] = kind; },
   nudge(state, cpu, { args: [key, way] }) { state.keys[key] += way === 'up' ? 1 : -1; },
@@ -163,14 +166,16 @@ function after(state, event) {
   };
   for (const event of events) {
     const { cpu, number, name, args: [id] } = event;
-    const source = cpuOf(state, cpu).inside ?? cpu;
+    const of = name === 'open' || name === 'collect' ? Number(id) : cpuOf(state, cpu).inside;
+    const known = state.stops.get(of);
     after(state, event);
     const { current, inside, irq } = cpuOf(state, cpu);
-    turns(`stop ${cpu}`, cpu, number, inside !== null, 'box stop', `stop of ${inside}`);
+    turns(`stop ${cpu}`, cpu, number, inside !== null, 'box stop', `stop ${inside}`);
     turns(`call ${cpu}`, cpu, number, current !== null, 'box handle', `record ${current && current.call.id}`);
     turns(`off ${cpu}`, cpu, number, !irq, 'off', 'interrupts off');
-    const stop = state.stops.get(source);
-    turns(`phase ${source}`, source, number, stop !== undefined && events.length > 30, 'phase', `phase ${stop && stop.phase}`);
+    const stop = state.stops.get(of);
+    const { source } = stop || known || event;
+    turns(`phase ${of}`, source, number, stop !== undefined && events.length > 30, 'phase', `phase ${stop && stop.phase}`);
     if (name === 'queue') sources.set(`call ${id}`, event);
     if (name === 'begin') link(sources, `call ${id}`, event, 'call');
     if (name === 'send') sources.set(`intr ${id}`, event);
@@ -199,18 +204,18 @@ function queuesText(state) {
   }
   return list(items) || 'Every queue is empty, and so is every batch.';
 }
-function stopText(source, stop, state) {
+function stopText(number, stop, state) {
   const among = (is) => maskText(stop.mask.filter(is));
   const what = escaped(`of CPUs ${maskText(stop.mask)}, active ${maskText(stop.active)}${stop.what ? ', ' : ''}${stop.what}`);
   const phase = stop.phase > 0 ? [`phase ${stop.phase}: <b>${PHASES[stop.phase]}</b>`,
     `acknowledged: ${among((cpu) => (stop.acked.get(cpu) || 0) >= stop.phase)}`] : [];
   const items = [
-    ...phase, `in it: ${among((cpu) => cpuOf(state, cpu).inside === source)}`, `interrupts off: ${among((cpu) => !cpuOf(state, cpu).irq)}`,
+    ...phase, `in it: ${among((cpu) => cpuOf(state, cpu).inside === number)}`, `interrupts off: ${among((cpu) => !cpuOf(state, cpu).irq)}`,
     `function has run: ${among((cpu) => stop.ran.has(cpu))}`, `completed: ${among((cpu) => stop.answers.has(cpu))}`,
   ];
-  return `stop of CPU ${source}, ${escaped(stop.kind)}, ${what}${list(items)}`;
+  return `stop ${number}, opened by CPU ${stop.source}, ${escaped(stop.kind)}, ${what}${list(items)}`;
 }
-const stopsText = (state) => list([...state.stops].sort(([a], [b]) => a - b).map(([source, stop]) => stopText(source, stop, state))) || 'No stop is open.';
+const stopsText = (state) => list([...state.stops].sort(([a], [b]) => a - b).map(([number, stop]) => stopText(number, stop, state))) || 'No stop is open.';
 function labelsText(state) {
   const gate = left.has('gate') ? [] : [`the gate: ${state.gate === null ? 'free' : `held by CPU ${state.gate}`}`];
   const keys = state.keys.map((count, key) => `key ${key}: count ${count}, ${count ? 'on' : 'off'}`);
@@ -221,7 +226,7 @@ function cpuText(state, number) {
   const cpu = cpuOf(state, number);
   const held = cpu.accepted ? 'accepted' : cpu.pending ? 'pending' : '-';
   const call = cpu.current ? `record ${cpu.current.call.id} ${cpu.current.progress}` : '-';
-  const stop = cpu.inside === null ? '-' : `of CPU ${cpu.inside}, acknowledged ${stopIn(state, cpu).acked.get(number) || 0}`;
+  const stop = cpu.inside === null ? '-' : `${cpu.inside}, acknowledged ${stopIn(state, cpu).acked.get(number) || 0}`;
   return cells([number, cpu.irq ? 'on' : 'off', held, call, stop], events[at].cpu === number ? NOW : '');
 }
 const cpusText = (state) => rowsText(['CPU', 'interrupts', 'interrupt', 'call', 'in the stop'], allCpus(state).map((cpu) => cpuText(state, cpu)));
@@ -229,10 +234,11 @@ const notes = {
   queue: 'The call joins a queue: record, target, class, function, info.', free: 'The record is seen unlocked.', send: 'An interrupt is sent.',
   accept: 'The CPU takes the interrupt that is pending.', idle: 'The CPU finds no interrupt.', take: 'The CPU takes its whole queue.',
   unlock: 'The record is unlocked.', begin: 'The function of the call is entered: record, function, info.', end: 'The function has returned.',
-  gate: 'The CPU takes the gate of the stops.', ungate: 'The gate is given up.', open: 'The stop is open: kind, mask, active, function, argument.',
-  enter: 'The CPU is in the stop of this source.', ack: 'The phase is acknowledged.', raise: 'The phase is raised.', off: 'Interrupts go off.',
+  gate: 'The CPU takes the gate of the stops.', ungate: 'The gate is given up.',
+  open: 'The stop is open: in version 3 its number, then kind, mask, active, function, argument.',
+  enter: 'The CPU is in the stop of this number.', ack: 'The phase is acknowledged.', raise: 'The phase is raised.', off: 'Interrupts go off.',
   on: 'Interrupts go on.', run: 'The function of the stop is entered: function, argument.', complete: 'The CPU completes with this answer.',
-  collect: 'The source collects the result.', set: 'A patch stores the count of a key.', turn: 'A patch turns a site.', key: 'The CPU reads a key.',
+  collect: 'The result of the stop is collected.', set: 'A patch stores the count of a key.', turn: 'A patch turns a site.', key: 'The CPU reads a key.',
   site: 'The CPU reads a site.', nudge: 'The CPU changes a count by one.',
 };
 function toldText(event) {

@@ -8,7 +8,7 @@ ghost use Rattle.trace_page.specs.Titles.{call_text, event_text, label_of, time_
 
 use crate::escape::is_plain;
 use std::alloc::{AllocError, Allocator};
-use trace_events::text::write_event;
+use trace_events::text::write_numbered;
 use trace_ftrace::names::{Names, address_of, name_of};
 use trace_ftrace::told::Told;
 use trace_model::{CallEvent, Event};
@@ -85,7 +85,7 @@ fn write_call<A: Allocator>(
             out.push_str("end, ")?;
             write_csd(out, names, id)
         }
-        _ => write_event(out, Event::Call(event)),
+        _ => write_numbered(out, Event::Call(event)),
     }
 }
 
@@ -99,7 +99,7 @@ fn write_told<A: Allocator>(
 {
     match event {
         Event::Call(call) => write_call(out, names, call),
-        _ => write_event(out, event),
+        _ => write_numbered(out, event),
     }
 }
 

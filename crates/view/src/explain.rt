@@ -58,7 +58,7 @@ fn online_in(text: &[u8]) -> CpuMask {
 }
 
 // Whether a text is a trace of version 3.
-fn is_wide(text: &[u8]) -> bool {
+fn is_third(text: &[u8]) -> bool {
     match line_text(text, 1) {
         Some(title) => is_word(title, b"smp 3 trace"),
         None => false,
@@ -79,15 +79,28 @@ fn many_in(text: &[u8]) -> u32 {
     }
 }
 
-// What the first three lines of a text settle.
+// Whether the line of this number leaves out the order of queues and unlocks.
+fn has_no_order(text: &[u8], line: u32) -> bool {
+    let Some(groups) = line_text(text, line) else {
+        return false;
+    };
+    let mut words = groups.split(|byte| *byte == b' ');
+    groups.starts_with(b"without ")
+        && words.any(|word| is_word(word, b"order"))
+        && words.any(|word| is_word(word, b"unlocks"))
+}
+
+// What the first lines of a text settle.
 fn setting_in<A: Allocator>(alloc: A, text: &[u8]) -> Result<TextSetting, AllocError> {
     let limit = limit(alloc, text)?;
-    let is_wide = is_wide(text);
+    let is_third = is_third(text);
     Ok(TextSetting {
         kind: kind_of(text).unwrap_or(TextKind::Replay),
-        limit: if is_wide { 32 } else { limit },
-        most: if is_wide { 512 } else { limit },
-        many: if is_wide { many_in(text) } else { 0 },
+        limit: if is_third { 32 } else { limit },
+        most: if is_third { 512 } else { limit },
+        many: if is_third { many_in(text) } else { 0 },
+        is_third,
+        has_unknown: is_third && (has_no_order(text, 3) || has_no_order(text, 4)),
         online: online_in(text),
         given: GivenNames::of(text),
     })
@@ -354,8 +367,7 @@ fn write_line<A: Allocator + Copy>(
     let kind = kind_of(text);
     let setting = setting_in(alloc, text)?;
     let fields = fields(alloc, line)?;
-    let has_labels = setting.many == 0;
-    let templates = templates_at(alloc, kind, fault.line, has_labels)?;
+    let templates = templates_at(alloc, kind, fault.line, &setting)?;
     let wrong = Wrong {
         setting,
         cause: fault.cause,

@@ -8,7 +8,7 @@ use smp_script::field::{read_mask, read_member};
 use smp_script::line::{is_word, split_part};
 use std::alloc::{AllocError, Allocator};
 
-/// What the first three lines of a text settle.
+/// What the first lines of a text settle.
 #[derive(Clone, Copy)]
 pub struct TextSetting {
     pub kind: TextKind,
@@ -18,6 +18,10 @@ pub struct TextSetting {
     pub most: u32,
     /// How many CPUs there are, where these are more than 32; else 0.
     pub many: u32,
+    /// Whether it is a trace of version 3.
+    pub is_third: bool,
+    /// Whether the class of a call may be unknown.
+    pub has_unknown: bool,
     pub online: CpuMask,
     pub given: GivenNames,
 }
@@ -45,8 +49,9 @@ pub enum Domain<'a> {
 
 const GROUPS: &str = "gate, interrupts, order, raises, switches, unlocks";
 
-const CALL_EVENTS: &str =
-    "C queue, C free, C send, C accept, C idle, C take, C unlock, C begin, C end";
+// What a CPU may do that is in no stop, and has no keys and sites.
+const OUTSIDE_EVENTS: &str =
+    "C queue, C free, C send, C accept, C idle, C take, C unlock, C begin, C end, C gate, C ungate, C open, C collect";
 
 const ALL_CPUS: &str = "0-LAST, the list of all NR CPUs";
 
@@ -89,16 +94,16 @@ fn argument_in(kind: TextKind, name: &str) -> Domain<'static> {
     }
 }
 
-// Whether a line of this template is an event of calls.
-fn is_of_calls(template: &str) -> bool {
-    CALL_EVENTS
+// Whether each CPU may have a line of this template.
+fn is_of_each(template: &str) -> bool {
+    OUTSIDE_EVENTS
         .split(", ")
         .any(|event| template.starts_with(event))
 }
 
-// The highest CPU of a line, where there are more than 32: stops, keys and sites are of those below 32.
+// The highest CPU of a line, where there are more than 32: those below 32 are in stops, and have keys and sites.
 fn last_cpu(setting: &TextSetting, template: &str) -> u32 {
-    if is_of_calls(template) {
+    if is_of_each(template) {
         setting.many.saturating_sub(1)
     } else {
         31
@@ -123,10 +128,11 @@ fn cpus_in(setting: &TextSetting, template: &str, name: &str) -> Domain<'static>
 }
 
 // What is one of some words.
-fn words_in(kind: TextKind, name: &str) -> Domain<'static> {
-    match (name, kind) {
+fn words_in(setting: &TextSetting, name: &str) -> Domain<'static> {
+    match (name, setting.kind) {
         ("VERSION", TextKind::Trace) => Domain::OneOf("2, 3"),
         ("VERSION", _) => Domain::OneOf("1, 2"),
+        ("CLASS", TextKind::Trace) if setting.has_unknown => Domain::OneOf("sync, async, unknown"),
         ("CLASS", _) => Domain::OneOf("sync, async"),
         ("KIND", _) => Domain::OneOf("one, multi, patch"),
         ("W", _) => Domain::OneOf("wait, nowait"),
@@ -140,7 +146,7 @@ pub fn domain_of<'a>(setting: &TextSetting, template: &str, name: &'a str) -> Do
         return Domain::Word(name);
     }
     match name {
-        "VERSION" | "CLASS" | "KIND" | "W" | "GROUP" => words_in(setting.kind, name),
+        "VERSION" | "CLASS" | "KIND" | "W" | "GROUP" => words_in(setting, name),
         "NR" | "MASK" | "C" | "CPU" => cpus_in(setting, template, name),
         "ACTIVE" if template.contains("stop_machine") => Domain::MaskOrNone,
         "DST" if template.contains("call_single") => Domain::Member,
@@ -151,6 +157,7 @@ pub fn domain_of<'a>(setting: &TextSetting, template: &str, name: &'a str) -> Do
         "N" => count_in(setting.kind),
         "U" => Domain::Number(0, 1),
         "R" => U16,
+        "S" if !template.contains("enter") => Domain::Number(0, 63),
         "P" if template.contains("raise") => Domain::Number(2, 5),
         "P" => Domain::Number(1, 4),
         "RET" | "V" => Domain::Signed,

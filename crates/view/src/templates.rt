@@ -1,5 +1,6 @@
 //! The lines that each kind of text may have: words as they are written, and names of fields in capitals.
 
+use crate::field_domain::TextSetting;
 use crate::text_kind::TextKind;
 use std::alloc::{AllocError, Allocator};
 
@@ -53,7 +54,7 @@ const OPERATIONS: [&str; 13] = [
 ];
 
 /// What may happen on a CPU of a trace.
-const EVENTS: [&str; 29] = [
+const EVENTS: [&str; 27] = [
     "queue R D CLASS FUNC INFO",
     "free R",
     "send D",
@@ -65,7 +66,6 @@ const EVENTS: [&str; 29] = [
     "end R",
     "gate",
     "ungate",
-    "open KIND MASK ACTIVE FUNC ARG",
     "enter S",
     "ack P",
     "raise P",
@@ -73,7 +73,6 @@ const EVENTS: [&str; 29] = [
     "on",
     "run FUNC ARG",
     "complete V",
-    "collect V",
     "set K N",
     "turn I NOP",
     "turn I JMP",
@@ -84,6 +83,11 @@ const EVENTS: [&str; 29] = [
     "nudge K up",
     "nudge K down",
 ];
+
+/// How a stop is opened and its result collected, and in version 3, where it has a number of its own.
+const STOPS: [&str; 2] = ["open KIND MASK ACTIVE FUNC ARG", "collect V"];
+
+const NUMBERED_STOPS: [&str; 2] = ["open S KIND MASK ACTIVE FUNC ARG", "collect S V"];
 
 /// The lines that a text may have, each as a template.
 pub type Templates<A> = Vec<String<A>, A>;
@@ -132,6 +136,7 @@ fn push_body<A: Allocator + Copy>(
     alloc: A,
     found: &mut Templates<A>,
     kind: TextKind,
+    is_third: bool,
 ) -> Result<(), AllocError> {
     match kind {
         TextKind::Replay => {
@@ -151,7 +156,11 @@ fn push_body<A: Allocator + Copy>(
                 &["always COND", "never COND", "finally COND"],
             )
         }
-        TextKind::Trace => push_behind(alloc, found, "C ", &EVENTS),
+        TextKind::Trace => {
+            push_behind(alloc, found, "C ", &EVENTS)?;
+            let stops = if is_third { &NUMBERED_STOPS } else { &STOPS };
+            push_behind(alloc, found, "C ", stops)
+        }
     }
 }
 
@@ -161,7 +170,7 @@ pub fn templates_at<A: Allocator + Copy>(
     alloc: A,
     kind: Option<TextKind>,
     line: u32,
-    has_labels: bool,
+    setting: &TextSetting,
 ) -> Result<Templates<A>, AllocError> {
     let mut found = Vec::new(alloc);
     let Some(kind) = kind else {
@@ -178,12 +187,12 @@ pub fn templates_at<A: Allocator + Copy>(
         push_behind(alloc, &mut found, "", &["cpus NR MASK"])?;
         return Ok(found);
     }
-    if line == 3 && has_labels {
+    if line == 3 && setting.many == 0 {
         push_behind(alloc, &mut found, "", &["labels KEYS ITEMS"])?;
     }
     if line <= 4 && kind == TextKind::Trace {
         push_behind(alloc, &mut found, "", &["without GROUP .."])?;
     }
-    push_body(alloc, &mut found, kind)?;
+    push_body(alloc, &mut found, kind, setting.is_third)?;
     Ok(found)
 }

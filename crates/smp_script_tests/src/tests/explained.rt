@@ -16,7 +16,25 @@ fn explained(alloc: Global, text: &[u8]) -> Result<(Vec<u8, Global>, Outcome), S
 
 #[test]
 fn what_may_stand_there(rt: HostRuntime) -> Result<(), Fail> {
-    let cases: [(&str, &str); 19] = [
+    let cases: [(&str, &str); 21] = [
+        (
+            "smp 3 trace\ncpus 2 0-1\nwithout interrupts order unlocks\n0 queue 1 1 x 7 42\n",
+            "line 4 Word: a wrong word, or too few or too many fields
+  0 queue 1 1 x 7 42
+  field 5, CLASS: here is `x`
+    here may be: sync, async, unknown
+    the line: C queue R D CLASS FUNC INFO
+",
+        ),
+        (
+            "smp 3 trace\ncpus 2 0-1\n0 open 64 one 1 - 7 9\n",
+            "line 3 Range: a number outside the range of its field
+  0 open 64 one 1 - 7 9
+  field 3, S: here is `64`
+    here may be: a number from 0 to 63
+    the line: C open S KIND MASK ACTIVE FUNC ARG
+",
+        ),
         (
             "smp 1 replay\ncpus 2 0-1\nstart 0 post 0 1 synk 7 42 1\n",
             "line 3 Word: a wrong word, or too few or too many fields
@@ -227,7 +245,8 @@ fn the_changed_field_is_named(rt: HostRuntime) -> Result<(), Fail> {
     let run = "smp 1 run\ncpus 2 0-1\n";
     let exploration = "smp 1 explore\ncpus 2 0-1\n";
     let trace = "smp 2 trace\ncpus 2 0-1\n";
-    let cases: [(&str, &str); 42] = [
+    let third = "smp 3 trace\ncpus 2 0-1\nwithout interrupts order unlocks\n";
+    let cases: [(&str, &str); 45] = [
         ("", "smp 1 replay"),
         ("smp 2 trace\n", "cpus 2 0-1"),
         (replay, "labels 1 0:1,0:0"),
@@ -270,6 +289,9 @@ fn the_changed_field_is_named(rt: HostRuntime) -> Result<(), Fail> {
         (trace, "0 raise 2"),
         (trace, "0 set 0 1"),
         (trace, "0 turn 0 JMP"),
+        (third, "0 open 5 multi 0-1 0 7 9"),
+        (third, "1 collect 5 -3"),
+        (third, "0 queue 1 1 unknown 7 42"),
     ];
     for (head, line) in cases {
         assert_eq!(rt; first_unnamed(&rt, head, line)?, None, "{line}");

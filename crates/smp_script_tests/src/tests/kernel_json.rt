@@ -28,7 +28,7 @@ const JSON: &str = r#"{"displayTimeUnit":"ns","traceEvents":[
 {"pid":0,"tid":1,"ts":110000006.000,"ph":"B","name":"stop 0","args":{"line":5}},
 {"pid":0,"tid":1,"ts":110000006.000,"ph":"i","s":"t","name":"run ffffffff81213920"},
 {"pid":0,"tid":1,"ts":110000007.000,"ph":"E"},
-{"pid":0,"tid":0,"ts":110000007.000,"ph":"e","cat":"stop","name":"stop 0","id":0}
+{"pid":0,"tid":1,"ts":110000007.000,"ph":"e","cat":"stop","name":"stop 0","id":0}
 ]}
 "#;
 

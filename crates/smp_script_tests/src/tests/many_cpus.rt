@@ -1,4 +1,4 @@
-//! Traces of more than 32 CPUs, and texts of ftrace that name such.
+//! Traces of version 3, and texts of ftrace that need it.
 
 use smp_mask::{Cause, SmpError};
 use smp_script::Watched;
@@ -66,7 +66,7 @@ fn lines_that_many_cpus_can_not_have(rt: HostRuntime) {
             Cause::Range,
         ),
         (
-            b"smp 3 trace\ncpus 64 0-63\n40 gate\n".as_slice(),
+            b"smp 3 trace\ncpus 64 0-63\n40 off\n".as_slice(),
             3,
             Cause::Range,
         ),
@@ -75,6 +75,76 @@ fn lines_that_many_cpus_can_not_have(rt: HostRuntime) {
         let wanted = SmpError::BadScript { line, cause };
         assert!(rt; judged(rt.alloc(), trace).is_err_and(|why| why == wanted));
     }
+}
+
+// CPU 40 opens two stops of CPU 1, which runs the second first. CPU 2 collects that one; the other is left.
+const NUMBERED: &[u8] = b"smp 3 trace
+cpus 64 0-63
+without gate
+40 open 63 one 1 - 9 5
+40 open 0 one 1 - 7 6
+1 enter 0
+1 run 7 6
+1 complete -3
+2 collect 0 -3
+1 enter 63
+";
+
+#[test]
+fn stops_have_numbers_of_their_own(rt: HostRuntime) -> Result<(), Fail> {
+    let told = b"lawful 7 events\nstop 63 one 0 1\ndrained\n".as_slice();
+    assert_eq!(rt; judged(rt.alloc(), NUMBERED)?.as_slice(), told);
+    let cases: [(&[u8], &[u8]); 3] = [
+        (
+            b"smp 3 trace\ncpus 2 0-1\nwithout gate\n0 open 5 one 1 - 9 5\n1 open 5 one 0 - 9 5\n".as_slice(),
+            b"line 5: CPU 1 open: stop 5 is open\n".as_slice(),
+        ),
+        (
+            b"smp 3 trace\ncpus 2 0-1\nwithout gate\n0 open 5 one 1 - 9 5\n0 collect 0 0\n".as_slice(),
+            b"line 5: CPU 0 collect: stop 0 is not open\n".as_slice(),
+        ),
+        (
+            b"smp 3 trace\ncpus 2 0-1\n0 open 5 one 1 - 9 5\n".as_slice(),
+            b"line 3: CPU 0 open: the gate is of no CPU\n".as_slice(),
+        ),
+    ];
+    for (trace, told) in cases {
+        assert_eq!(rt; judged(rt.alloc(), trace)?.as_slice(), told);
+    }
+    Ok(())
+}
+
+// The second and the third line of a trace in which a class may be unknown.
+const UNKNOWN: &str = "cpus 2 0-1\nwithout interrupts order unlocks\n";
+
+#[test]
+fn lines_of_version_3_alone(rt: HostRuntime) -> Result<(), Fail> {
+    let told = b"lawful 3 events\ntally 0 1 1 1\ndrained\n".as_slice();
+    let call = format!(in rt.alloc();
+        "smp 3 trace\n{UNKNOWN}0 queue 7 1 unknown 1 42\n1 begin 7 1 42\n1 end 7\n"
+    )?;
+    assert_eq!(rt; judged(rt.alloc(), call.as_bytes())?.as_slice(), told);
+    let cases: [(&str, &str, &str, Cause); 8] = [
+        ("2", UNKNOWN, "0 queue 7 1 unknown 1 42", Cause::Word),
+        (
+            "3",
+            "cpus 2 0-1\nwithout unlocks\n",
+            "0 queue 7 1 unknown 1 42",
+            Cause::Word,
+        ),
+        ("3", UNKNOWN, "0 open one 1 - 9 5", Cause::Word),
+        ("3", UNKNOWN, "0 open 64 one 1 - 9 5", Cause::Range),
+        ("3", UNKNOWN, "0 open x one 1-9 - 9 5", Cause::Number),
+        ("3", UNKNOWN, "0 collect 0", Cause::Word),
+        ("3", UNKNOWN, "0 collect 64 0", Cause::Range),
+        ("2", UNKNOWN, "0 collect 0 0", Cause::Word),
+    ];
+    for (version, head, line, cause) in cases {
+        let trace = format!(in rt.alloc(); "smp {version} trace\n{head}{line}\n")?;
+        let wanted = SmpError::BadScript { line: 4, cause };
+        assert!(rt; judged(rt.alloc(), trace.as_bytes()).is_err_and(|why| why == wanted));
+    }
+    Ok(())
 }
 
 // CPU 200 queues a call for CPU 511, which runs it.
@@ -117,4 +187,19 @@ fn cpus_that_a_text_can_not_have(rt: HostRuntime) {
         let plain = judge_kernel(rt.alloc(), 0, text).map(|v| v.1);
         assert!(rt; plain == Err(Refusal::Wrong(1, Wrong::Cpu)));
     }
+}
+
+// A task opens 64 stops of one CPU, and then one more.
+#[test]
+fn stops_that_a_text_opens(rt: HostRuntime) -> Result<(), Fail> {
+    let mut text = String::new(rt.alloc());
+    for time in 1..65u32 {
+        writeln!(text, "x-1 [000] {time}: nowait_open: cpu=1 fn=0x1 arg=0x2")?;
+    }
+    let plain = judge_kernel(rt.alloc(), 0, text.as_bytes()).map(|v| v.1);
+    assert!(rt; plain == Ok(Ruling::Lawful));
+    writeln!(text, "x-1 [000] 65: nowait_open: cpu=1 fn=0x1 arg=0x2")?;
+    let more = judge_kernel(rt.alloc(), 0, text.as_bytes()).map(|v| v.1);
+    assert!(rt; more == Err(Refusal::Wrong(65, Wrong::Stops)));
+    Ok(())
 }

@@ -1,10 +1,9 @@
 -- A text that is accepted is a trace.
-use Rattle.trace_laws.proofs.Names.{AreLabels, Bool, CursorValue, EarlyEnd, Entry, Err, HaveKinds, Labels, Line, List, Ok, Result}
-use Rattle.trace_laws.proofs.Names.{StateValue, [], ap, arith, cases_lt, cpus_at, entry_at, entry_at-word, entry_word, false, fields_of, first_site}
-use Rattle.trace_laws.proofs.Names.{get_or, get_or-replicate, get_or_past, head_of, head_with, if◌then◌else◌, inl, inr, is_labels, is_on, kind_of, kind_word}
-use Rattle.trace_laws.proofs.Names.{labels_at, length, length-append, length-map, length-replicate, lines_of, ltb-false, map, nat_lt}
-use Rattle.trace_laws.proofs.Names.{no_labels, replicate, slice_index, subst, sym, table_of, titled, true, used_after, whole_labels, without_at, words_of}
-use Rattle.trace_laws.proofs.Names.{ℕ, ◌++◌, ◌-◌, ◌>>=◌, ◌∙◌, ◌∷◌, ◌≡◌, ◌≤◌}
+use Rattle.trace_laws.proofs.Names.{AreLabels, Bool, CursorValue, EarlyEnd, Entry, Err, HaveKinds, Labels, Line, List, Ok, Result, StateValue, [], ap, arith}
+use Rattle.trace_laws.proofs.Names.{cases_lt, cpus_at, entry_at, entry_at-word, entry_word, false, fields_of, first_site, get_or, get_or-replicate, get_or_past}
+use Rattle.trace_laws.proofs.Names.{head_of, head_with, if◌then◌else◌, inl, inr, is_labels, is_on, kind_of, kind_word, labels_at, length, length-append}
+use Rattle.trace_laws.proofs.Names.{length-map, length-replicate, lines_of, ltb-false, map, nat_lt, no_labels, replicate, setting_with, slice_index, subst, sym}
+use Rattle.trace_laws.proofs.Names.{table_of, titled, true, used_after, whole_labels, without_at, words_of, ℕ, ◌++◌, ◌-◌, ◌>>=◌, ◌∙◌, ◌∷◌, ◌≡◌, ◌≤◌}
 use Rattle.std.proofs.{lemmas.List.get_or-append_right, lemmas.List.get_or-map, lemmas.List.get_or_append_left}
 use Rattle.smp_mask.specs.declared.error.Cause.TheVariants.{Word}
 use Rattle.smp_labels.specs.Law.{site_word}
@@ -102,14 +101,16 @@ words_long labels few = search (length-replicate, length-append, length-map, ari
 head_labels : (lines : List Line) (h : HeadValue) → head_of lines ≡ Ok h → AreLabels h.setting h.words
 unfolding head_of labels_at
 head_labels lines h e =
-    let last = λ (cpus : ℕ × ℕ) (labels : Labels × CursorValue). without_at labels.1 >>= λ without. Ok (head_with cpus labels.0 without.0 without.1) in
-    let third = λ (cpus : (ℕ × ℕ) × CursorValue). labels_at cpus.0.0 cpus.1 >>= last cpus.0 in
-    let a = both (titled lines) (λ second. cpus_at second.0 second.1 >>= third) h e in
-    let b = both (cpus_at a.0.0 a.0.1) third h a.1.1 in
-    let c = both (labels_at b.0.0.0 b.0.1) (last b.0.0) h b.1.1 in
-    let d = both (without_at c.0.1) (λ without. Ok (head_with b.0.0 c.0.0 without.0 without.1)) h c.1.1 in
+    let last = λ (is_third : Bool) (cpus : ℕ × ℕ) (labels : Labels × CursorValue).
+    without_at labels.1 >>= λ without. Ok (head_with (setting_with is_third cpus labels.0 without.0) labels.0 without.1) in
+    let third = λ (is_third : Bool) (cpus : (ℕ × ℕ) × CursorValue). labels_at cpus.0.0 cpus.1 >>= last is_third cpus.0 in
+    let a = both (titled lines) (λ second. cpus_at second.0 second.1 >>= third second.0) h e in
+    let b = both (cpus_at a.0.0 a.0.1) (third a.0.0) h a.1.1 in
+    let c = both (labels_at b.0.0.0 b.0.1) (last a.0.0 b.0.0) h b.1.1 in
+    let d = both (without_at c.0.1) (λ without. Ok (head_with (setting_with a.0.0 b.0.0 c.0.0 without.0) c.0.0 without.1)) h c.1.1 in
     let few = few_at (nat_lt 32 b.0.0.0) b.0.1 c.0 c.1.0 in
-    let same : head_with b.0.0 c.0.0 d.0.0 d.0.1 ≡ h = ok_is (head_with b.0.0 c.0.0 d.0.0 d.0.1) h d.1.1 in
+    let head = head_with (setting_with a.0.0 b.0.0 c.0.0 d.0.0) c.0.0 d.0.1 in
+    let same : head ≡ h = ok_is head h d.1.1 in
     let long = words_long c.0.0 few.sites in
     subst (λ (x : HeadValue). AreLabels x.setting x.words) same (record {
       keys_are = long.0;

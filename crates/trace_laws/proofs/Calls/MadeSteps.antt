@@ -21,6 +21,6 @@ pub failed : {A : Type 0} (test : Bool) (made : Result A Reason) (why : Reason) 
 failed true made why a e = absurd cc
 failed false made why a e = (refl, e)
 
--- an event of stops, keys or sites was made: its CPU is below 32
+-- an event in a stop, or of keys or sites, was made: its CPU is below 32
 pub low_event : (cpu : ℕ) (made : Result StateValue Reason) (t : StateValue) → if_low cpu made ≡ Ok t → (cpu < 32) × (made ≡ Ok t)
 low_event cpu made t e = let p = passed (nat_lt cpu 32) made reason.NoSuchWork t e in (ltb-true cpu 32 p.0, p.1)

@@ -42,7 +42,7 @@ pub event_shows : (order : Bool) (cpu actor : ℕ) (e : Event) (s t : StateValue
 event_shows order cpu actor (event.Call e) s t o below g = call_shows order cpu actor e s t o below g
 event_shows order cpu actor (event.Stop e) s t o below g =
     quiet_event order cpu (actor, event.Stop e) s t refl refl refl refl refl
-    (kept_goes (not order) cpu s t below (stop_keeps_calls actor e s t (low_event actor _ t g).1))
+    (kept_goes (not order) cpu s t below (stop_keeps_calls actor e s t g))
 event_shows order cpu actor (event.Label e) s t o below g =
     quiet_event order cpu (actor, event.Label e) s t refl refl refl refl refl
     (kept_goes (not order) cpu s t below (label_keeps_calls actor e s t (low_event actor _ t g).1))

@@ -1,14 +1,18 @@
--- A call is queued for another CPU that is online, and an event of stops is of a CPU below 32.
+-- A call is queued for another CPU that is online, what a CPU does in a stop is of a CPU below 32, and the number of a stop is below 64.
+use Rattle.trace_laws.proofs.Names.{Class, Reason, Result, Setting, StateValue, StopEvent, and_parts, arith, collect_by, collected, enter_by, enter_from}
+use Rattle.trace_laws.proofs.Names.{eq-eqb, inside_goes, is_online, lt-ltb, ltb-true, on_stop, open_by, open_closed, queue_by, stop_at, stop_goes, stop_of}
+use Rattle.trace_laws.proofs.Names.{◌&&◌, ◌<◌}
 use Rattle.std.proofs.Common.{◌≡◌, ◌≢◌, ℕ, ◌==◌, nat_lt, Bool, true, false, Ok, refl, sym, ap}
 use Rattle.std.proofs.Common.{◌∙◌, inl, inr}
 use Rattle.std.proofs.lemmas.Bool.{cases_lt, le-ltb}
-use Rattle.trace_laws.proofs.Names.{Class, Setting, StateValue, and_parts, is_online, lt-ltb, ltb-true, queue_by, eq-eqb}
 use Rattle.trace_model.specs.declared.event.CallEvent.TheVariants as calls
 use Rattle.trace_model.specs.declared.event.Event.TheVariants as event
+use Rattle.trace_model.specs.declared.event.StopEvent.TheVariants as stops
+use Rattle.trace_model.specs.declared.reason.Reason.TheVariants as reason
 use Rattle.trace_model.specs.Opened.{opening}
-use Rattle.trace_laws.proofs.Calls.MadeSteps.{low_event}
+use Rattle.trace_laws.proofs.Calls.MadeSteps.{low_event, passed}
 use Rattle.trace_laws.proofs.Stops.AtRun.{runs_last, setting_at_first, setting_runs}
-use Rattle.trace_laws.specs.Targets.{CallsHaveTargets, IsThere, StopsAreLow}
+use Rattle.trace_laws.specs.Targets.{CallsHaveTargets, IsThere, NamesStop, StopsAreLow, StopsAreThere, is_inside}
 
 is_there : (u : Setting) (cpu : ℕ) → is_online u cpu ≡ true → IsThere u cpu
 is_there u cpu is = elim (cases_lt cpu 32) [
@@ -36,7 +40,30 @@ calls_have_targets u words es t cpu id to class func info run =
     let set : m.0.setting ≡ u = setting_runs es (opening u words) m.0 m.1.0 ∙ setting_at_first u words in
     (q.0, is_there u to (ap (λ v. is_online v to) (sym set) ∙ q.1))
 
+-- an event in a stop is made so
+inside_is_low : (cpu : ℕ) (e : StopEvent) (s t : StateValue) → stop_goes cpu e s ≡ Ok t → is_inside e ≡ true → cpu < 32
+unfolding stop_goes
+inside_is_low cpu e s t made is = search (low_event, arith)
+
 pub stops_are_low : StopsAreLow
-stops_are_low u words es t cpu e run =
+stops_are_low u words es t cpu e run is =
     let m = runs_last es (cpu, event.Stop e) (opening u words) t run in
-    (low_event cpu _ t m.1.1).0
+    inside_is_low cpu e m.0 t m.1.1 is
+
+-- the stop that is entered is there
+entered_there : (inside : Result ℕ Reason) (cpu number : ℕ) (s t : StateValue) → enter_from inside cpu number s ≡ Ok t → number < 64
+entered_there inside cpu number s t e = search (passed, and_parts, ltb-true, arith)
+
+names_stop : (cpu : ℕ) (e : StopEvent) (s t : StateValue) → stop_goes cpu e s ≡ Ok t → NamesStop e
+unfolding stop_goes inside_goes open_by enter_by collect_by
+names_stop cpu (stops.Open number task) s t e = ltb-true number 64 (passed (nat_lt number 64) (open_closed cpu number task s) reason.NoSuchWork t e).0
+names_stop cpu (stops.Enter number) s t e = entered_there (stop_of cpu s) cpu number s t (low_event cpu _ t e).1
+names_stop cpu (stops.Collect number answer) s t e =
+    let p = passed (nat_lt number 64 && (stop_at s number).is_open) (on_stop number s (collected answer (stop_at s number))) (reason.StopNotOpen number) t e in
+    ltb-true number 64 (and_parts (nat_lt number 64) (stop_at s number).is_open p.0).0
+names_stop cpu _ s t e = tt
+
+pub stops_are_there : StopsAreThere
+stops_are_there u words es t cpu e run =
+    let m = runs_last es (cpu, event.Stop e) (opening u words) t run in
+    names_stop cpu e m.0 t m.1.1

@@ -1,17 +1,17 @@
 -- Keys and sites are lawful outside a patch.
-use Rattle.trace_laws.proofs.Names.{arith, APatch, AreLabels, Bool, Err, Event, HaveKinds, IsTrace, Key, Kind, LabelEvent, LabelWords, List, None, Ok}
-use Rattle.trace_laws.proofs.Names.{Option, Patch, Place, Reason, Result, Runs, Seen, Setting, Site, Some, StateValue, Stop, StopEvent, Task, [], ack_by}
-use Rattle.trace_laws.proofs.Names.{acked, acknowledged, ap, closed, collect_by, collected, complete_by, completed, count_at, cpu_at, enter_by, enter_from}
-use Rattle.trace_laws.proofs.Names.{false, gate_by, gate_with, goes, has, holds_gate, if◌then◌else◌, in_patch, in_round, inl, is_on, key_by, label_goes, length}
-use Rattle.trace_laws.proofs.Names.{made_store, may_ack, may_off, may_open, next_store, not, nudge_by, nudged_count, off_by, on_by, on_stop, open_by, opened}
-use Rattle.trace_laws.proofs.Names.{patch_by, patch_left, raise_by, raised, ran_function, reads_by, refl, run_as, run_by, seen, site_at, site_by, site_word}
-use Rattle.trace_laws.proofs.Names.{stop_at, stop_goes, stop_of, stored, switched, switched_on, sym, table_of, through, true, ungate_by, unseen, with_inside}
-use Rattle.trace_laws.proofs.Names.{lt-ltb, with_irq, with_stop, work, xor, ℕ, ℤ, ◌&&◌, ◌<◌, ◌==◌, ◌>>=◌, ◌∙◌, ◌∷◌, ◌≡◌, ◌⊎◌}
+use Rattle.trace_laws.proofs.Names.{APatch, AreLabels, Bool, Err, Event, HaveKinds, IsTrace, Key, Kind, LabelEvent, LabelWords, List, None, Ok, Option}
+use Rattle.trace_laws.proofs.Names.{Place, Reason, Result, Runs, Seen, Setting, Site, Some, StateValue, Stop, StopEvent, Task, [], ack_by, acked, acknowledged}
+use Rattle.trace_laws.proofs.Names.{ap, arith, closed, collect_by, collected, complete_by, completed, count_at, cpu_at, enter_by, enter_from, false, gate_by}
+use Rattle.trace_laws.proofs.Names.{gate_with, goes, has, holds_gate, if◌then◌else◌, in_patch, in_round, inl, inside_goes, key_by, label_goes, length}
+use Rattle.trace_laws.proofs.Names.{lt-ltb, made_store, may_ack, may_off, may_open, nat_lt, next_store, not, nudge_by, nudged_count, off_by, on_by, on_stop}
+use Rattle.trace_laws.proofs.Names.{open_by, open_closed, opened, patch_by, patch_left, raise_by, raised, ran_function, reads_by, refl, run_as, run_by, seen}
+use Rattle.trace_laws.proofs.Names.{site_by, site_word, stop_at, stop_goes, stop_of, stored, switched, switched_on, sym, table_of, through, true}
+use Rattle.trace_laws.proofs.Names.{ungate_by, unseen, with_inside, with_irq, with_stop, work, ℕ, ℤ, ◌&&◌, ◌<◌, ◌==◌, ◌>>=◌, ◌∙◌, ◌∷◌, ◌≡◌, ◌⊎◌}
 use Rattle.trace_model.specs.declared.event.Event.TheVariants as event
 use Rattle.trace_model.specs.declared.event.LabelEvent.TheVariants as labels
 use Rattle.trace_model.specs.declared.event.StopEvent.TheVariants as stops
 use Rattle.trace_model.specs.declared.reason.Reason.TheVariants as reason
-use Rattle.trace_model.specs.{Labels.is_jump, Labels.read_key, Labels.read_site, Opened.opening as at_first}
+use Rattle.trace_model.specs.{Labels.read_key, Labels.read_site, Opened.opening as at_first}
 use Rattle.trace_laws.proofs.Labels.PatchEvents.{collect_labelled, complete_labelled, enter_labelled, labelled_end, open_labelled, run_labelled}
 use Rattle.trace_laws.proofs.Labels.Patches.{AtPatch, AtRest, Labelled, PatchAt, held_in, labelled_same, patch_round}
 use Rattle.trace_laws.proofs.Stops.AtRun.{held_at, rounds_at_first, rounds_goes, rounds_of, runs_last, seen_all, setting_at_first, setting_runs, stop_at_first}
@@ -27,8 +27,8 @@ use Rattle.smp_words.specs.declared.phase.TheConstants.{OVER}
 words_end : (s t u : StateValue) → t ≡ u → t.words ≡ s.words → u.words ≡ s.words
 words_end s t u same e = ap (λ x. x.words) (sym same) ∙ e
 
-stop_words : (source : ℕ) (s t : StateValue) (made : Result Stop Reason) → on_stop source s made ≡ Ok t → t.words ≡ s.words
-stop_words source s t made e = let m = both_made made (λ x. Ok (with_stop source s x)) t e in words_end s (with_stop source s m.0) t (cc) refl
+stop_words : (number : ℕ) (s t : StateValue) (made : Result Stop Reason) → on_stop number s made ≡ Ok t → t.words ≡ s.words
+stop_words number s t made e = let m = both_made made (λ x. Ok (with_stop number s x)) t e in words_end s (with_stop number s m.0) t (cc) refl
 
 if_words : (test : Bool) (s x y : StateValue) → x.words ≡ s.words → y.words ≡ s.words → let z : StateValue = if test then x else y in z.words ≡ s.words
 if_words true s x y p q = p
@@ -41,23 +41,24 @@ gate_words : (gate : Option ℕ) (cpu : ℕ) (s t : StateValue) → gate_with ga
 gate_words (Some holder) cpu s t e = absurd cc
 gate_words None cpu s t e = words_end s (record s { gate = Some cpu }) t (cc) refl
 
-open_words : (source : ℕ) (task : Task) (s t : StateValue) → open_by source task s ≡ Ok t → t.words ≡ s.words
+open_words : (cpu number : ℕ) (task : Task) (s t : StateValue) → open_by cpu number task s ≡ Ok t → t.words ≡ s.words
 unfolding open_by
-open_words source task s t e =
-    let next = on_stop source s (opened s.setting task) in
-    let p = failed (stop_at s source).is_open (may_open s.setting.without.gate source s >>= λ u. next) (reason.StopOpen source) t e in
-    let m = both_made (may_open s.setting.without.gate source s) (λ u. next) t p.1 in stop_words source s t (opened s.setting task) m.1.1
+open_words cpu number task s t e =
+    let next = on_stop number s (opened s.setting task) in
+    let o = passed (nat_lt number 64) (open_closed cpu number task s) reason.NoSuchWork t e in
+    let p = failed (stop_at s number).is_open (may_open s.setting.without.gate cpu s >>= λ u. next) (reason.StopOpen number) t o.1 in
+    let m = both_made (may_open s.setting.without.gate cpu s) (λ u. next) t p.1 in stop_words number s t (opened s.setting task) m.1.1
 
-enter_words : (inside : Result ℕ Reason) (cpu source : ℕ) (s t : StateValue) → enter_from inside cpu source s ≡ Ok t → t.words ≡ s.words
-enter_words inside cpu source s t h1 = search (passed, both_made, words_end, stop_words, arith)
+enter_words : (inside : Result ℕ Reason) (cpu number : ℕ) (s t : StateValue) → enter_from inside cpu number s ≡ Ok t → t.words ≡ s.words
+enter_words inside cpu number s t h1 = search (passed, both_made, words_end, stop_words, arith)
 
-switched_words : (s : StateValue) (cpu source phase : ℕ) → let t = switched cpu source phase s in t.words ≡ s.words
-switched_words s cpu source phase = search (if_words, arith)
+switched_words : (s : StateValue) (cpu number phase : ℕ) → let t = switched cpu number phase s in t.words ≡ s.words
+switched_words s cpu number phase = search (if_words, arith)
 
 ack_words : (cpu phase : ℕ) (s t : StateValue) → ack_by cpu phase s ≡ Ok t → t.words ≡ s.words
 unfolding ack_by
 ack_words cpu phase s t e =
-    let m = both_made (in_round cpu s) (λ source. may_ack cpu source phase s >>= λ x. Ok (acked cpu source phase x)) t e in
+    let m = both_made (in_round cpu s) (λ number. may_ack cpu number phase s >>= λ x. Ok (acked cpu number phase x)) t e in
     let n = both_made (may_ack cpu m.0 phase s) (λ x. Ok (acked cpu m.0 phase x)) t m.1.1 in
     let k = may_is s n.0 m.0 cpu phase n.1.0 in
     let old : n.0.words ≡ s.words = ap (λ x. x.words) k.0.is in
@@ -67,69 +68,70 @@ ack_words cpu phase s t e =
 raise_words : (cpu phase : ℕ) (s t : StateValue) → raise_by cpu phase s ≡ Ok t → t.words ≡ s.words
 unfolding raise_by
 raise_words cpu phase s t e =
-    let m = both_made (in_round cpu s) (λ source. on_stop source s (raised cpu phase (stop_at s source)) >>= λ x. Ok (switched_on cpu phase x)) t e in
+    let m = both_made (in_round cpu s) (λ number. on_stop number s (raised cpu phase (stop_at s number)) >>= λ x. Ok (switched_on cpu phase x)) t e in
     let made = raised cpu phase (stop_at s m.0) in
     let n = both_made (on_stop m.0 s made) (λ x. Ok (switched_on cpu phase x)) t m.1.1 in
     let old = stop_words m.0 s n.0 made n.1.0 in
     words_end s (switched_on cpu phase n.0) t (cc) (if_words (n.0.setting.without.switches && (phase == OVER)) s (with_irq cpu true n.0) n.0 old old)
 
-off_is : (cpu : ℕ) (s t : StateValue) → off_by cpu s ≡ Ok t → with_irq cpu false s ≡ t
+pub off_is : (cpu : ℕ) (s t : StateValue) → off_by cpu s ≡ Ok t → with_irq cpu false s ≡ t
 unfolding off_by
 off_is cpu s t e =
-    let m = both_made (in_round cpu s) (λ source. may_off cpu source s >>= λ u. Ok (with_irq cpu false s)) t e in
+    let m = both_made (in_round cpu s) (λ number. may_off cpu number s >>= λ u. Ok (with_irq cpu false s)) t e in
     let n = both_made (may_off cpu m.0 s) (λ u. Ok (with_irq cpu false s)) t m.1.1 in cc
 
-on_is : (cpu : ℕ) (s t : StateValue) → on_by cpu s ≡ Ok t → with_irq cpu true s ≡ t
+pub on_is : (cpu : ℕ) (s t : StateValue) → on_by cpu s ≡ Ok t → with_irq cpu true s ≡ t
 unfolding on_by
 on_is cpu s t e =
-    let next = λ (source : ℕ). through (stop_at s source) cpu >>= λ u. Ok (with_irq cpu true s) in
-    let m = both_made (in_round cpu s) (λ source. if (cpu_at s cpu).irq then Err reason.InterruptsOn else next source) t e in
+    let next = λ (number : ℕ). through (stop_at s number) cpu >>= λ u. Ok (with_irq cpu true s) in
+    let m = both_made (in_round cpu s) (λ number. if (cpu_at s cpu).irq then Err reason.InterruptsOn else next number) t e in
     let p = failed (cpu_at s cpu).irq (next m.0) reason.InterruptsOn t m.1.1 in
     let n = both_made (through (stop_at s m.0) cpu) (λ u. Ok (with_irq cpu true s)) t p.1 in cc
 
-run_as_words : (kind : Kind) (source cpu func arg : ℕ) (s t : StateValue) → run_as kind source cpu func arg s ≡ Ok t → t.words ≡ s.words
-run_as_words APatch source cpu func arg s t e = absurd cc
-run_as_words _ source cpu func arg s t e = stop_words source s t (ran_function cpu func arg (stop_at s source)) e
+run_as_words : (kind : Kind) (number cpu func arg : ℕ) (s t : StateValue) → run_as kind number cpu func arg s ≡ Ok t → t.words ≡ s.words
+run_as_words APatch number cpu func arg s t e = absurd cc
+run_as_words _ number cpu func arg s t e = stop_words number s t (ran_function cpu func arg (stop_at s number)) e
 
 run_words : (cpu func arg : ℕ) (s t : StateValue) → run_by cpu func arg s ≡ Ok t → t.words ≡ s.words
 unfolding run_by
 run_words cpu func arg s t e =
-    let m = both_made (stop_of cpu s) (λ source. run_as (stop_at s source).task.kind source cpu func arg s) t e in
+    let m = both_made (stop_of cpu s) (λ number. run_as (stop_at s number).task.kind number cpu func arg s) t e in
     run_as_words (stop_at s m.0).task.kind m.0 cpu func arg s t m.1.1
 
 complete_words : (cpu : ℕ) (answer : ℤ) (s t : StateValue) → complete_by cpu answer s ≡ Ok t → t.words ≡ s.words
 unfolding complete_by
 complete_words cpu answer s t e =
-    let made = λ (source : ℕ). completed cpu answer (cpu_at s cpu).irq (stop_at s source) in
-    let m = both_made (stop_of cpu s) (λ source. on_stop source s (made source) >>= λ x. Ok (with_inside cpu None x)) t e in
+    let made = λ (number : ℕ). completed cpu answer (cpu_at s cpu).irq (stop_at s number) in
+    let m = both_made (stop_of cpu s) (λ number. on_stop number s (made number) >>= λ x. Ok (with_inside cpu None x)) t e in
     let n = both_made (on_stop m.0 s (made m.0)) (λ x. Ok (with_inside cpu None x)) t m.1.1 in
     words_end s (with_inside cpu None n.0) t (cc) (stop_words m.0 s n.0 (made m.0) n.1.0)
 
-collect_words : (source : ℕ) (answer : ℤ) (s t : StateValue) → collect_by source answer s ≡ Ok t → t.words ≡ s.words
+collect_words : (number : ℕ) (answer : ℤ) (s t : StateValue) → collect_by number answer s ≡ Ok t → t.words ≡ s.words
 unfolding collect_by
-collect_words source answer s t e =
-    let made = collected answer (stop_at s source) in
-    let p = passed (stop_at s source).is_open (on_stop source s made) (reason.StopNotOpen source) t e in stop_words source s t made p.1
+collect_words number answer s t e =
+    let made = collected answer (stop_at s number) in
+    let p = passed (nat_lt number 64 && (stop_at s number).is_open) (on_stop number s made) (reason.StopNotOpen number) t e in
+    stop_words number s t made p.1
 
 -- an event of stops changes no key and no site
 stop_goes_words : (cpu : ℕ) (e : StopEvent) (s t : StateValue) → stop_goes cpu e s ≡ Ok t → t.words ≡ s.words
-unfolding stop_goes gate_by ungate_by enter_by
+unfolding stop_goes inside_goes gate_by ungate_by enter_by
 stop_goes_words cpu stops.Gate s t e = gate_words s.gate cpu s t e
 stop_goes_words cpu stops.Ungate s t e = after_words (holds_gate cpu s) s (record s { gate = None }) t e refl
-stop_goes_words cpu (stops.Open task) s t e = open_words cpu task s t e
-stop_goes_words cpu (stops.Enter source) s t e = enter_words (stop_of cpu s) cpu source s t e
-stop_goes_words cpu (stops.Ack phase) s t e = ack_words cpu phase s t e
-stop_goes_words cpu (stops.Raise phase) s t e = raise_words cpu phase s t e
-stop_goes_words cpu stops.Off s t e = words_end s (with_irq cpu false s) t (off_is cpu s t e) refl
-stop_goes_words cpu stops.On s t e = words_end s (with_irq cpu true s) t (on_is cpu s t e) refl
-stop_goes_words cpu (stops.Run func arg) s t e = run_words cpu func arg s t e
-stop_goes_words cpu (stops.Complete answer) s t e = complete_words cpu answer s t e
-stop_goes_words cpu (stops.Collect answer) s t e = collect_words cpu answer s t e
+stop_goes_words cpu (stops.Open number task) s t e = open_words cpu number task s t e
+stop_goes_words cpu (stops.Enter number) s t e = enter_words (stop_of cpu s) cpu number s t (low_event cpu _ t e).1
+stop_goes_words cpu (stops.Ack phase) s t e = ack_words cpu phase s t (low_event cpu _ t e).1
+stop_goes_words cpu (stops.Raise phase) s t e = raise_words cpu phase s t (low_event cpu _ t e).1
+stop_goes_words cpu stops.Off s t e = words_end s (with_irq cpu false s) t (off_is cpu s t (low_event cpu _ t e).1) refl
+stop_goes_words cpu stops.On s t e = words_end s (with_irq cpu true s) t (on_is cpu s t (low_event cpu _ t e).1) refl
+stop_goes_words cpu (stops.Run func arg) s t e = run_words cpu func arg s t (low_event cpu _ t e).1
+stop_goes_words cpu (stops.Complete answer) s t e = complete_words cpu answer s t (low_event cpu _ t e).1
+stop_goes_words cpu (stops.Collect number answer) s t e = collect_words number answer s t e
 
 store_words : (cpu : ℕ) (place : Place) (word : ℕ) (s t : StateValue) → patch_by cpu place word s ≡ Ok t → t.words ≡ stored place word s.words
 unfolding patch_by
 store_words cpu place word s t e =
-    let m = both_made (in_patch cpu s) (λ source. made_store (next_store source s) source (patch_left source s) place word s) t e in
+    let m = both_made (in_patch cpu s) (λ number. made_store (next_store number s) number (patch_left number s) place word s) t e in
     search (passed, arith)
 
 nudge_words : (cpu key : ℕ) (up : Bool) (s t : StateValue) → nudge_by cpu key up s ≡ Ok t →
@@ -150,7 +152,7 @@ label_words cpu (labels.Nudge key up) s t e = nudge_words cpu key up s t e ∙ a
 
 words_goes : (cpu : ℕ) (e : Event) (s t : StateValue) → goes cpu e s ≡ Ok t → t.words ≡ words_next s.words (cpu, e)
 words_goes cpu (event.Call e) s t g = (call_keeps_rounds cpu e s t g).words_are
-words_goes cpu (event.Stop e) s t g = stop_goes_words cpu e s t (low_event cpu _ t g).1
+words_goes cpu (event.Stop e) s t g = stop_goes_words cpu e s t g
 words_goes cpu (event.Label e) s t g = label_words cpu e s t (low_event cpu _ t g).1
 
 -- keys and sites are what the events have stored
@@ -170,21 +172,21 @@ ungate_labelled cpu s t l e =
     labelled_end (record s { gate = None }) t (cc) (labelled_same s (record s { gate = None }) refl refl refl l)
 
 stop_goes_labelled : (seen : ℕ → Seen) (work : ℕ → Option Task) (cpu : ℕ) (e : StopEvent) (s t : StateValue) → Rounds seen work s → Labelled s →
-    cpu < 32 → stop_goes cpu e s ≡ Ok t → Labelled t
-unfolding stop_goes gate_by
-stop_goes_labelled seen work cpu stops.Gate s t r l low e = gate_labelled s.gate cpu s t l e
-stop_goes_labelled seen work cpu stops.Ungate s t r l low e = ungate_labelled cpu s t l e
-stop_goes_labelled seen work cpu (stops.Open task) s t r l low e = open_labelled seen work s t cpu task r l low e
-stop_goes_labelled seen work cpu (stops.Enter source) s t r l low e = enter_labelled seen work s t source cpu r l e
-stop_goes_labelled seen work cpu (stops.Ack phase) s t r l low e = ack_labelled seen work s t cpu phase r l e
-stop_goes_labelled seen work cpu (stops.Raise phase) s t r l low e = raise_labelled seen work s t cpu phase r l e
-stop_goes_labelled seen work cpu stops.Off s t r l low e = labelled_end (with_irq cpu false s) t (off_is cpu s t e) (labelled_same s
-    (with_irq cpu false s) refl refl refl l)
-stop_goes_labelled seen work cpu stops.On s t r l low e = labelled_end (with_irq cpu true s) t (on_is cpu s t e) (labelled_same s
-    (with_irq cpu true s) refl refl refl l)
-stop_goes_labelled seen work cpu (stops.Run func arg) s t r l low e = run_labelled seen work s t cpu func arg r l e
-stop_goes_labelled seen work cpu (stops.Complete answer) s t r l low e = complete_labelled seen work s t cpu answer r l e
-stop_goes_labelled seen work cpu (stops.Collect answer) s t r l low e = collect_labelled seen work s t cpu answer r l e
+    stop_goes cpu e s ≡ Ok t → Labelled t
+unfolding stop_goes inside_goes gate_by
+stop_goes_labelled seen work cpu stops.Gate s t r l e = gate_labelled s.gate cpu s t l e
+stop_goes_labelled seen work cpu stops.Ungate s t r l e = ungate_labelled cpu s t l e
+stop_goes_labelled seen work cpu (stops.Open number task) s t r l e = open_labelled seen work s t cpu number task r l e
+stop_goes_labelled seen work cpu (stops.Enter number) s t r l e = enter_labelled seen work s t number cpu r l (low_event cpu _ t e).1
+stop_goes_labelled seen work cpu (stops.Ack phase) s t r l e = ack_labelled seen work s t cpu phase r l (low_event cpu _ t e).1
+stop_goes_labelled seen work cpu (stops.Raise phase) s t r l e = raise_labelled seen work s t cpu phase r l (low_event cpu _ t e).1
+stop_goes_labelled seen work cpu stops.Off s t r l e = labelled_end (with_irq cpu false s) t (off_is cpu s t (low_event cpu _ t e).1)
+    (labelled_same s (with_irq cpu false s) refl refl refl l)
+stop_goes_labelled seen work cpu stops.On s t r l e = labelled_end (with_irq cpu true s) t (on_is cpu s t (low_event cpu _ t e).1)
+    (labelled_same s (with_irq cpu true s) refl refl refl l)
+stop_goes_labelled seen work cpu (stops.Run func arg) s t r l e = run_labelled seen work s t cpu func arg r l (low_event cpu _ t e).1
+stop_goes_labelled seen work cpu (stops.Complete answer) s t r l e = complete_labelled seen work s t cpu answer r l (low_event cpu _ t e).1
+stop_goes_labelled seen work cpu (stops.Collect number answer) s t r l e = collect_labelled seen work s t number answer r l e
 
 after_labelled : (test : Result (Unit {0}) Reason) (s t : StateValue) → Labelled s → (test >>= λ u. Ok s) ≡ Ok t → Labelled t
 after_labelled test s t l e = let m = both_made test (λ u. Ok s) t e in labelled_end s t (cc) l
@@ -201,8 +203,7 @@ label_goes_labelled seen work cpu (labels.Nudge key up) s t r l e = nudge_labell
 labelled_goes : (seen : ℕ → Seen) (work : ℕ → Option Task) (cpu : ℕ) (e : Event) (s t : StateValue) → Rounds seen work s → Labelled s → goes cpu e s ≡ Ok t →
     Labelled t
 labelled_goes seen work cpu (event.Call e) s t r l g = let k = call_keeps_rounds cpu e s t g in labelled_same s t k.words_are k.stops_are k.setting_is l
-labelled_goes seen work cpu (event.Stop e) s t r l g = let made = low_event cpu (stop_goes cpu e s) t g in
-    stop_goes_labelled seen work cpu e s t r l made.0 made.1
+labelled_goes seen work cpu (event.Stop e) s t r l g = stop_goes_labelled seen work cpu e s t r l g
 labelled_goes seen work cpu (event.Label e) s t r l g = label_goes_labelled seen work cpu e s t r l (low_event cpu _ t g).1
 
 labelled_runs : (seen : ℕ → Seen) (work : ℕ → Option Task) (es : List (ℕ × Event)) (s t : StateValue) → Rounds seen work s → Labelled s → Runs s es t →
@@ -228,16 +229,16 @@ labelled_at_first u words a =
       keys_are = ap (λ x. length x.keys) w ∙ a.keys_are;
       sites_are = ap (λ x. length x.sites) w ∙ a.sites_are;
       keys = rw set a.keys;
-      patches = λ source low. let st : stop_at s source ≡ closed u.online = stop_at_first u words source low in rw st (closed_patch s.setting u.online);
+      patches = λ number low. let st : stop_at s number ≡ closed u.online = stop_at_first u words number low in rw st (closed_patch s.setting u.online);
       either = inl (record {
         ok = rw w a.lawful;
-        none = λ source low p live. let st : stop_at s source ≡ closed u.online = stop_at_first u words source low in
+        none = λ number low p live. let st : stop_at s number ≡ closed u.online = stop_at_first u words number low in
             let o : (closed u.online).is_open ≡ true = (let z = live.is_open in rw st at z) in absurd cc;
       });
     }
 
 labelled_of : (u : Setting) (words : LabelWords) (es : List (ℕ × Event)) (t : StateValue) → AreLabels u words → IsTrace u words es t → Labelled t
-labelled_of u words es t a run = labelled_runs (λ cpu. unseen) (λ source. None) es (at_first u words) t (rounds_at_first u words)
+labelled_of u words es t a run = labelled_runs (λ cpu. unseen) (λ number. None) es (at_first u words) t (rounds_at_first u words)
     (labelled_at_first u words a) run
 
 told_words : (u : Setting) (words : LabelWords) (es : List (ℕ × Event)) (t : StateValue) → IsTrace u words es t → t.words ≡ words_from words es
@@ -246,16 +247,16 @@ told_words u words es t run = words_runs es (at_first u words) t run ∙ ap (λ 
 patching : (u : Setting) (words : LabelWords) (es : List (ℕ × Event)) (t : StateValue) → IsTrace u words es t → Labelled t → AtPatch t → IsPatching u es
 patching u words es t run l a =
     let r = rounds_of u words es t run in
-    let all = (l.patches a.source a.low).all a.live.is_open a.live.kind_is in
+    let all = (l.patches a.number a.low).all a.live.is_open a.live.kind_is in
     let set : t.setting ≡ u = setting_runs es (at_first u words) t run ∙ setting_at_first u words in
     record {
-      source = a.source;
-      task = (stop_at t a.source).task;
-      opened = (r.stop a.source a.low).work_is a.live.is_open;
+      number = a.number;
+      task = (stop_at t a.number).task;
+      opened = (r.stop a.number a.low).work_is a.live.is_open;
       kind_is = a.live.kind_is;
       all = λ member below online.
-          let mask : (stop_at t a.source).task.mask ≡ u.online = all.mask_is ∙ ap (λ x. x.online) set in
-          held_at u words es t a.source member run a.low a.live.is_open (patch_round (stop_at t a.source).task.kind a.live.kind_is) a.live.at below
+          let mask : (stop_at t a.number).task.mask ≡ u.online = all.mask_is ∙ ap (λ x. x.online) set in
+          held_at u words es t a.number member run a.low a.live.is_open (patch_round (stop_at t a.number).task.kind a.live.kind_is) a.live.at below
           (rw mask online);
     }
 

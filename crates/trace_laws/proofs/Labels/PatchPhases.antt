@@ -15,32 +15,32 @@ use Rattle.trace_laws.proofs.{Stops.CpusInStops.stop_changed, Stops.Phases.late_
 use Rattle.smp_words.specs.declared.phase.TheConstants.{DISABLE_IRQ, RUN, OVER}
 
 -- A patch is over: its CPU may acknowledge RUN.
-pub record IsOver (s : StateValue) (source actor phase : ℕ) : Type 0 where
+pub record IsOver (s : StateValue) (number actor phase : ℕ) : Type 0 where
   pub at : phase ≡ RUN
-  pub kind_is : (stop_at s source).task.kind ≡ APatch
-  pub active : has (stop_at s source).task.active actor ≡ true
-  pub none : next_store source s ≡ None
+  pub kind_is : (stop_at s number).task.kind ≡ APatch
+  pub active : has (stop_at s number).task.active actor ≡ true
+  pub none : next_store number s ≡ None
 
 -- What a CPU that may acknowledge has shown of a patch.
-pub record MayAck (s t : StateValue) (source actor phase : ℕ) : Type 0 where
+pub record MayAck (s t : StateValue) (number actor phase : ℕ) : Type 0 where
   pub patch : Option Patch
-  pub is : t ≡ with_stop source s (record (stop_at s source) { patch = patch })
-  pub how : (patch ≡ (stop_at s source).patch) × (phase ≡ RUN → (stop_at s source).task.kind ≡ APatch → has (stop_at s source).task.active actor ≡ true → ⊥)
-      ⊎ (patch ≡ Some (patch_left source s)) × IsOver s source actor phase
+  pub is : t ≡ with_stop number s (record (stop_at s number) { patch = patch })
+  pub how : (patch ≡ (stop_at s number).patch) × (phase ≡ RUN → (stop_at s number).task.kind ≡ APatch → has (stop_at s number).task.active actor ≡ true → ⊥)
+      ⊎ (patch ≡ Some (patch_left number s)) × IsOver s number actor phase
 
-may_here : (s t : StateValue) (source actor phase : ℕ) → s ≡ t → (phase ≡ RUN → (stop_at s source).task.kind ≡ APatch →
-    has (stop_at s source).task.active actor ≡ true → ⊥)
-    → MayAck s t source actor phase
-may_here s t source actor phase same idle = record { patch = (stop_at s source).patch; is = sym same ∙ (sym (stop_same source s)); how = inl (refl, idle) }
+may_here : (s t : StateValue) (number actor phase : ℕ) → s ≡ t → (phase ≡ RUN → (stop_at s number).task.kind ≡ APatch →
+    has (stop_at s number).task.active actor ≡ true → ⊥)
+    → MayAck s t number actor phase
+may_here s t number actor phase same idle = record { patch = (stop_at s number).patch; is = sym same ∙ (sym (stop_same number s)); how = inl (refl, idle) }
 
-may_tests : (two runs : Bool) (s t : StateValue) (source actor phase : ℕ) (test : Result (Unit {0}) Reason) → (phase == DISABLE_IRQ) ≡ two
-    → ((phase == RUN) && has (stop_at s source).task.active actor) ≡ runs
-    → (if two then (test >>= λ v. Ok s) else (if runs then acks_at_run actor source s else Ok s)) ≡ Ok t → MayAck s t source actor phase
-may_tests two runs s t source actor phase test h1 h2 h3 = search (both_made, may_here, eqb-true, and_parts, passed, eq-eqb, ne_truth, arith)
+may_tests : (two runs : Bool) (s t : StateValue) (number actor phase : ℕ) (test : Result (Unit {0}) Reason) → (phase == DISABLE_IRQ) ≡ two
+    → ((phase == RUN) && has (stop_at s number).task.active actor) ≡ runs
+    → (if two then (test >>= λ v. Ok s) else (if runs then acks_at_run actor number s else Ok s)) ≡ Ok t → MayAck s t number actor phase
+may_tests two runs s t number actor phase test h1 h2 h3 = search (both_made, may_here, eqb-true, and_parts, passed, eq-eqb, ne_truth, arith)
 
-pub may_is : (s t : StateValue) (source actor phase : ℕ) → may_ack actor source phase s ≡ Ok t
-    → MayAck s t source actor phase × ((acked_by (stop_at s source) actor < phase) × ((stop_at s source).phase ≡ phase))
-may_is s t source actor phase h1 = search (both_made, may_tests, acts_at, arith)
+pub may_is : (s t : StateValue) (number actor phase : ℕ) → may_ack actor number phase s ≡ Ok t
+    → MayAck s t number actor phase × ((acked_by (stop_at s number) actor < phase) × ((stop_at s number).phase ≡ phase))
+may_is s t number actor phase h1 = search (both_made, may_tests, acts_at, arith)
 
 -- A stop with the same patch, but for its phase.
 pub record SameBut (stop to : Stop) : Type 0 where
@@ -58,13 +58,13 @@ last_phase : (who : Option ℕ) (actor : ℕ) (raises : Bool) (stop : Stop) → 
 last_phase who actor raises stop = search arith
 
 -- A CPU acknowledges a phase: what becomes of the patch of its stop.
-pub record Acks (s : StateValue) (source actor phase : ℕ) (patch : Option Patch) : Type 0 where
-  pub low : source < 32
+pub record Acks (s : StateValue) (number actor phase : ℕ) (patch : Option Patch) : Type 0 where
+  pub low : number < 64
   pub below : actor < 32
-  pub at : (stop_at s source).phase ≡ phase
-  pub more : acked_by (stop_at s source) actor < phase
-  pub how : (patch ≡ (stop_at s source).patch) × (phase ≡ RUN → (stop_at s source).task.kind ≡ APatch → has (stop_at s source).task.active actor ≡ true → ⊥)
-      ⊎ (patch ≡ Some (patch_left source s)) × IsOver s source actor phase
+  pub at : (stop_at s number).phase ≡ phase
+  pub more : acked_by (stop_at s number) actor < phase
+  pub how : (patch ≡ (stop_at s number).patch) × (phase ≡ RUN → (stop_at s number).task.kind ≡ APatch → has (stop_at s number).task.active actor ≡ true → ⊥)
+      ⊎ (patch ≡ Some (patch_left number s)) × IsOver s number actor phase
 
 abbrev ack_to : ℕ → ℕ → Bool → Option Patch → Stop → Stop
 ack_to actor phase raises patch stop =
@@ -74,23 +74,23 @@ acked_other : (stop : Stop) (actor phase cpu : ℕ) → cpu ≢ actor → slice_
 acked_other stop actor phase cpu ne = get_or-set_other stop.acked actor cpu phase 0 ne
 
 -- the CPU that has acknowledged RUN is not the one that patches
-not_early : (seen : ℕ → Seen) (work : ℕ → Option Task) (s : StateValue) (source actor phase : ℕ) (raises : Bool) (patch : Option Patch) (q : Patch) →
+not_early : (seen : ℕ → Seen) (work : ℕ → Option Task) (s : StateValue) (number actor phase : ℕ) (raises : Bool) (patch : Option Patch) (q : Patch) →
     Rounds seen work s
-    → Acks s source actor phase patch → phase ≡ RUN → has (stop_at s source).task.active actor ≡ true →
-    Live (ack_to actor phase raises patch (stop_at s source)) q → ⊥
-not_early seen work s source actor phase raises patch q h1 h2 h3 h4 h5 = search (last_open, get_or-set_same, arith)
+    → Acks s number actor phase patch → phase ≡ RUN → has (stop_at s number).task.active actor ≡ true →
+    Live (ack_to actor phase raises patch (stop_at s number)) q → ⊥
+not_early seen work s number actor phase raises patch q h1 h2 h3 h4 h5 = search (last_open, get_or-set_same, arith)
 
-live_after : (s : StateValue) (source actor phase : ℕ) (raises : Bool) (patch : Option Patch) (q : Patch) → Labelled s → Acks s source actor phase patch
-    → patch ≡ (stop_at s source).patch → (has (stop_at s source).task.active actor ≡ true → ⊥) → Live (stop_at s source) q
-    → Live (ack_to actor phase raises patch (stop_at s source)) q
-live_after s source actor phase raises patch q l a same idle live =
-    let stop = stop_at s source in
+live_after : (s : StateValue) (number actor phase : ℕ) (raises : Bool) (patch : Option Patch) (q : Patch) → Labelled s → Acks s number actor phase patch
+    → patch ≡ (stop_at s number).patch → (has (stop_at s number).task.active actor ≡ true → ⊥) → Live (stop_at s number) q
+    → Live (ack_to actor phase raises patch (stop_at s number)) q
+live_after s number actor phase raises patch q l a same idle live =
+    let stop = stop_at s number in
     let mid = with_acked actor phase (record stop { patch = patch }) in
     let who = late mid phase in
     let b = last_open who actor raises mid in
     let task : (at_last who actor raises mid).task ≡ stop.task = b.task in
     let acked : (at_last who actor raises mid).acked ≡ slice_set stop.acked actor phase = b.acked in
-    let all = (l.patches source a.low).all live.is_open live.kind_is in
+    let all = (l.patches number a.low).all live.is_open live.kind_is in
     let ne : all.cpu ≢ actor = λ e. idle (let x = all.active in rw e at x) in
     let early = live.early all.cpu all.below all.active in
     let kept = acked_other stop actor phase all.cpu ne in
@@ -106,38 +106,38 @@ live_after s source actor phase raises patch q l a same idle live =
       early = search (stop.task.active, task, live.early, who, mid, stop, acked, acked_other, arith);
     }
 
-ack_rests : (seen : ℕ → Seen) (work : ℕ → Option Task) (s : StateValue) (source actor phase : ℕ) (raises : Bool) (patch : Option Patch) →
+ack_rests : (seen : ℕ → Seen) (work : ℕ → Option Task) (s : StateValue) (number actor phase : ℕ) (raises : Bool) (patch : Option Patch) →
     Rounds seen work s → Labelled s
-    → Acks s source actor phase patch → ((p : Patch) → Live (stop_at s source) p → ⊥) → (q : Patch) →
-    Live (ack_to actor phase raises patch (stop_at s source)) q → ⊥
-ack_rests seen work s source actor phase raises patch h1 h2 h3 h4 q h5 = search (last_open, last_phase, cases_Bool, not_early, acked_other, ne_truth, arith)
+    → Acks s number actor phase patch → ((p : Patch) → Live (stop_at s number) p → ⊥) → (q : Patch) →
+    Live (ack_to actor phase raises patch (stop_at s number)) q → ⊥
+ack_rests seen work s number actor phase raises patch h1 h2 h3 h4 q h5 = search (last_open, last_phase, cases_Bool, not_early, acked_other, ne_truth, arith)
 
-ack_next : (seen : ℕ → Seen) (work : ℕ → Option Task) (s : StateValue) (source actor phase : ℕ) (raises : Bool) (patch : Option Patch) → Rounds seen work s →
+ack_next : (seen : ℕ → Seen) (work : ℕ → Option Task) (s : StateValue) (number actor phase : ℕ) (raises : Bool) (patch : Option Patch) → Rounds seen work s →
     Labelled s
-    → Acks s source actor phase patch → (p : Patch) → Live (stop_at s source) p → Partial s.words (stop_at s source).task.func p
-    → let to = ack_to actor phase raises patch (stop_at s source) in
-    (Live to p × (to.task.func ≡ (stop_at s source).task.func)) ⊎ (AllOk s.words × ((q : Patch) → Live to q → ⊥))
-ack_next seen work s source actor phase raises patch r l a p live part =
-    let stop = stop_at s source in
+    → Acks s number actor phase patch → (p : Patch) → Live (stop_at s number) p → Partial s.words (stop_at s number).task.func p
+    → let to = ack_to actor phase raises patch (stop_at s number) in
+    (Live to p × (to.task.func ≡ (stop_at s number).task.func)) ⊎ (AllOk s.words × ((q : Patch) → Live to q → ⊥))
+ack_next seen work s number actor phase raises patch r l a p live part =
+    let stop = stop_at s number in
     let mid = with_acked actor phase (record stop { patch = patch }) in
     let b = last_open (late mid phase) actor raises mid in
     let three : phase ≡ RUN = sym a.at ∙ live.at in
     elim a.how [
-      | inl h ↦ (let idle = h.1 three live.kind_is in inl (live_after s source actor phase raises patch p l a h.0 idle live, ap (λ x. x.func) b.task))
+      | inl h ↦ (let idle = h.1 three live.kind_is in inl (live_after s number actor phase raises patch p l a h.0 idle live, ap (λ x. x.func) b.task))
       | inr h ↦
           (let known : stop.patch ≡ Some p = live.known in
-          let left : patch_left source s ≡ p = ap (λ x. patch_or x (patch_for s.words (key_number stop.task.func) stop.task.arg)) known in
+          let left : patch_left number s ≡ p = ap (λ x. patch_or x (patch_for s.words (key_number stop.task.func) stop.task.arg)) known in
           let over : front_of s.words stop.task.func p ≡ None = ap (λ x. front_of s.words stop.task.func x) (sym left) ∙ h.1.none in
-          inr (over_ok s.words stop.task.func p live.turns over part, (λ q m. not_early seen work s source actor phase raises patch q r a three h.1.active m)))
+          inr (over_ok s.words stop.task.func p live.turns over part, (λ q m. not_early seen work s number actor phase raises patch q r a three h.1.active m)))
     ]
 
-ack_goes : (seen : ℕ → Seen) (work : ℕ → Option Task) (s : StateValue) (source actor phase : ℕ) (raises : Bool) (patch : Option Patch) → Rounds seen work s →
+ack_goes : (seen : ℕ → Seen) (work : ℕ → Option Task) (s : StateValue) (number actor phase : ℕ) (raises : Bool) (patch : Option Patch) → Rounds seen work s →
     Labelled s
-    → Acks s source actor phase patch → StopGoes s source (ack_to actor phase raises patch (stop_at s source))
-ack_goes seen work s source actor phase raises patch r l a = record {
+    → Acks s number actor phase patch → StopGoes s number (ack_to actor phase raises patch (stop_at s number))
+ack_goes seen work s number actor phase raises patch r l a = record {
   patch = search (last_open, some_is, front_none, last_phase, arith);
-  rests = λ none q live. ack_rests seen work s source actor phase raises patch r l a none q live;
-  goes = λ p live part. ack_next seen work s source actor phase raises patch r l a p live part;
+  rests = λ none q live. ack_rests seen work s number actor phase raises patch r l a none q live;
+  goes = λ p live part. ack_next seen work s number actor phase raises patch r l a p live part;
 }
 
 -- interrupts are of no patch
@@ -147,33 +147,33 @@ irq_labelled s cpu on l = labelled_same s (with_irq cpu on s) refl refl refl l
 if_labelled : (test : Bool) (x y : StateValue) → Labelled x → Labelled y → Labelled (if test then x else y)
 if_labelled test x y p q = search arith
 
-switched_labelled : (s : StateValue) (cpu source phase : ℕ) → Labelled s → Labelled (switched cpu source phase s)
-switched_labelled s cpu source phase h1 = search (if_labelled, irq_labelled, arith)
+switched_labelled : (s : StateValue) (cpu number phase : ℕ) → Labelled s → Labelled (switched cpu number phase s)
+switched_labelled s cpu number phase h1 = search (if_labelled, irq_labelled, arith)
 
-ack_from : (seen : ℕ → Seen) (work : ℕ → Option Task) (s m : StateValue) (source actor phase : ℕ) → Rounds seen work s → Labelled s → source < 32 → actor < 32
-    → (k : MayAck s m source actor phase) → acked_by (stop_at s source) actor < phase → (stop_at s source).phase ≡ phase → Labelled (acked actor source phase m)
+ack_from : (seen : ℕ → Seen) (work : ℕ → Option Task) (s m : StateValue) (number actor phase : ℕ) → Rounds seen work s → Labelled s → number < 64 → actor < 32
+    → (k : MayAck s m number actor phase) → acked_by (stop_at s number) actor < phase → (stop_at s number).phase ≡ phase → Labelled (acked actor number phase m)
 unfolding acknowledged
-ack_from seen work s m source actor phase r l low below k more at =
-    let stop = stop_at s source in
+ack_from seen work s m number actor phase r l low below k more at =
+    let stop = stop_at s number in
     let known = record stop { patch = k.patch } in
     let raises = not m.setting.without.raises in
     let to = ack_to actor phase raises k.patch stop in
-    let is : m ≡ with_stop source s known = k.is in
-    let st : stop_at m source ≡ known = ap (λ x. stop_at x source) is ∙ stop_changed source s known (rw r.stops_are low) in
-    let a : Acks s source actor phase k.patch = record { low = low; below = below; at = at; more = more; how = k.how } in
-    let u = with_stop source m (acknowledged actor phase raises (stop_at m source)) in
-    let stops : u.stops ≡ slice_set s.stops source to =
-    ap (λ x. slice_set m.stops source (acknowledged actor phase raises x)) st ∙ ap (λ x. slice_set x.stops source to) is ∙ set-set s.stops source known to in
+    let is : m ≡ with_stop number s known = k.is in
+    let st : stop_at m number ≡ known = ap (λ x. stop_at x number) is ∙ stop_changed number s known (rw r.stops_are low) in
+    let a : Acks s number actor phase k.patch = record { low = low; below = below; at = at; more = more; how = k.how } in
+    let u = with_stop number m (acknowledged actor phase raises (stop_at m number)) in
+    let stops : u.stops ≡ slice_set s.stops number to =
+    ap (λ x. slice_set m.stops number (acknowledged actor phase raises x)) st ∙ ap (λ x. slice_set x.stops number to) is ∙ set-set s.stops number known to in
     let words : u.words ≡ s.words = ap (λ x. x.words) is in
     let setting : u.setting ≡ s.setting = ap (λ x. x.setting) is in
-    switched_labelled u actor source phase (labelled_same (with_stop source s to) u words stops setting
-    (stop_labelled seen work s source to r l (ack_goes seen work s source actor phase raises k.patch r l a) low))
+    switched_labelled u actor number phase (labelled_same (with_stop number s to) u words stops setting
+    (stop_labelled seen work s number to r l (ack_goes seen work s number actor phase raises k.patch r l a) low))
 
 pub ack_labelled : (seen : ℕ → Seen) (work : ℕ → Option Task) (s t : StateValue) (actor phase : ℕ) → Rounds seen work s → Labelled s →
     ack_by actor phase s ≡ Ok t → Labelled t
 unfolding ack_by
 ack_labelled seen work s t actor phase r l e =
-    let m = both_made (in_round actor s) (λ source. may_ack actor source phase s >>= λ x. Ok (acked actor source phase x)) t e in
+    let m = both_made (in_round actor s) (λ number. may_ack actor number phase s >>= λ x. Ok (acked actor number phase x)) t e in
     let i = in_round_is s actor m.0 m.1.0 in
     let n = both_made (may_ack actor m.0 phase s) (λ x. Ok (acked actor m.0 phase x)) t m.1.1 in
     let k = may_is s n.0 m.0 actor phase n.1.0 in
@@ -181,29 +181,29 @@ ack_labelled seen work s t actor phase r l e =
     (ack_from seen work s n.0 m.0 actor phase r l i.low (actor_below s actor m.0 r.cpus_are r.away i.inside) k.0 k.1.0 k.1.1)
 
 -- a phase is raised
-raise_goes : (seen : ℕ → Seen) (work : ℕ → Option Task) (s : StateValue) (source phase : ℕ) → Rounds seen work s → Labelled s → source < 32
-    → is_some (stop_at s source).raiser ≡ true → (stop_at s source).phase ≡ phase - 1 →
-    StopGoes s source (record (stop_at s source) { phase = phase; raiser = None })
-raise_goes seen work s source phase h1 h2 h3 h4 h5 = search arith
+raise_goes : (seen : ℕ → Seen) (work : ℕ → Option Task) (s : StateValue) (number phase : ℕ) → Rounds seen work s → Labelled s → number < 64
+    → is_some (stop_at s number).raiser ≡ true → (stop_at s number).phase ≡ phase - 1 →
+    StopGoes s number (record (stop_at s number) { phase = phase; raiser = None })
+raise_goes seen work s number phase h1 h2 h3 h4 h5 = search arith
 
 pub raise_labelled : (seen : ℕ → Seen) (work : ℕ → Option Task) (s t : StateValue) (actor phase : ℕ) → Rounds seen work s → Labelled s →
     raise_by actor phase s ≡ Ok t → Labelled t
 unfolding raise_by raised
 raise_labelled seen work s t actor phase r l e =
-    let made = λ (source : ℕ). let stop = stop_at s source in
+    let made = λ (number : ℕ). let stop = stop_at s number in
     let x : Result Stop Reason = if stop.phase == phase - 1 then raised_by stop.raiser actor phase stop else Err (reason.PhaseIs stop.phase) in x in
-    let m = both_made (in_round actor s) (λ source. on_stop source s (made source) >>= λ x. Ok (switched_on actor phase x)) t e in
-    let source = m.0 in
-    let stop = stop_at s source in
-    let i = in_round_is s actor source m.1.0 in
-    let n = both_made (on_stop source s (made source)) (λ x. Ok (switched_on actor phase x)) t m.1.1 in
-    let k = both_made (made source) (λ x. Ok (with_stop source s x)) n.0 n.1.0 in
+    let m = both_made (in_round actor s) (λ number. on_stop number s (made number) >>= λ x. Ok (switched_on actor phase x)) t e in
+    let number = m.0 in
+    let stop = stop_at s number in
+    let i = in_round_is s actor number m.1.0 in
+    let n = both_made (on_stop number s (made number)) (λ x. Ok (switched_on actor phase x)) t m.1.1 in
+    let k = both_made (made number) (λ x. Ok (with_stop number s x)) n.0 n.1.0 in
     let p = passed (stop.phase == phase - 1) (raised_by stop.raiser actor phase stop) (reason.PhaseIs stop.phase) k.0 k.1.0 in
     let o = raised_is stop.raiser actor phase stop k.0 p.1 in
     let to = record stop { phase = phase; raiser = None } in
-    let u = with_stop source s to in
-    let end : u ≡ n.0 = ap (λ x. with_stop source s x) o.1 ∙ cc in
+    let u = with_stop number s to in
+    let end : u ≡ n.0 = ap (λ x. with_stop number s x) o.1 ∙ cc in
     let same : switched_on actor phase u ≡ t = ap (λ x. switched_on actor phase x) end ∙ cc in
-    let after = stop_labelled seen work s source to r l (raise_goes seen work s source phase r l i.low o.0 (eqb-true stop.phase (phase - 1) p.0)) i.low in
+    let after = stop_labelled seen work s number to r l (raise_goes seen work s number phase r l i.low o.0 (eqb-true stop.phase (phase - 1) p.0)) i.low in
     labelled_end (switched_on actor phase u) t same
     (if_labelled (u.setting.without.switches && (phase == OVER)) (with_irq actor true u) u (irq_labelled u actor true after) after)

@@ -34,22 +34,22 @@ pub record PatchAt (u : Setting) (stop : Stop) : Type 0 where
 -- Each site has its kind, and no patch has more to store.
 pub record AtRest (s : StateValue) : Type 0 where
   pub ok : AllOk s.words
-  pub none : (source : ℕ) → source < 32 → (p : Patch) → Live (stop_at s source) p → ⊥
+  pub none : (number : ℕ) → number < 64 → (p : Patch) → Live (stop_at s number) p → ⊥
 
 -- Or one patch has.
 pub record AtPatch (s : StateValue) : Type 0 where
-  pub source : ℕ
-  pub low : source < 32
+  pub number : ℕ
+  pub low : number < 64
   pub p : Patch
-  pub live : Live (stop_at s source) p
-  pub partial : Partial s.words (stop_at s source).task.func p
+  pub live : Live (stop_at s number) p
+  pub partial : Partial s.words (stop_at s number).task.func p
 
 -- What holds of patches, keys and sites.
 pub record Labelled (s : StateValue) : Type 0 where
   pub keys_are : length s.words.keys ≡ 4
   pub sites_are : length s.words.sites ≡ 16
   pub keys : s.setting.keys ≤ 4
-  pub patches : (source : ℕ) → source < 32 → PatchAt s.setting (stop_at s source)
+  pub patches : (number : ℕ) → number < 64 → PatchAt s.setting (stop_at s number)
   pub either : AtRest s ⊎ AtPatch s
 
 member_here : (m x k : ℕ) → has m x ≡ true → x ≡ k → length (members_below m x) + 1 ≤ length (members_below m (suc k))
@@ -69,13 +69,13 @@ members_more m x (suc k) is low = elim (cases_eq x k) [
 ]
 
 -- at RUN of a patch, each CPU of its mask is in its stop, with its interrupts off
-pub held_in : (seen : ℕ → Seen) (work : ℕ → Option Task) (s : StateValue) (source cpu : ℕ) → Rounds seen work s → source < 32 →
-    (stop_at s source).is_open ≡ true
-    → is_round (stop_at s source).task.kind ≡ true → (stop_at s source).phase ≡ RUN → cpu < 32 → has (stop_at s source).task.mask cpu ≡ true
-    → ((cpu_at s cpu).inside ≡ Some source) × ((cpu_at s cpu).irq ≡ false)
-held_in seen work s source cpu r low opened_is round at below in_mask =
-    let stop = stop_at s source in
-    let w = r.at source low cpu below in
+pub held_in : (seen : ℕ → Seen) (work : ℕ → Option Task) (s : StateValue) (number cpu : ℕ) → Rounds seen work s → number < 64 →
+    (stop_at s number).is_open ≡ true
+    → is_round (stop_at s number).task.kind ≡ true → (stop_at s number).phase ≡ RUN → cpu < 32 → has (stop_at s number).task.mask cpu ≡ true
+    → ((cpu_at s cpu).inside ≡ Some number) × ((cpu_at s cpu).irq ≡ false)
+held_in seen work s number cpu r low opened_is round at below in_mask =
+    let stop = stop_at s number in
+    let w = r.at number low cpu below in
     let all = w.all round in_mask (omega arith) in
     let up = w.up_to round (omega arith) in
     let two : DISABLE_IRQ ≤ acked_by stop cpu = omega arith in
@@ -87,56 +87,56 @@ pub patch_round : (kind : Kind) → kind ≡ APatch → is_round kind ≡ true
 patch_round kind e = rw e refl
 
 -- two patches are not at RUN at once
-pub one_live : (seen : ℕ → Seen) (work : ℕ → Option Task) (s : StateValue) (source other : ℕ) (p q : Patch) → Rounds seen work s
-    → ((x : ℕ) → x < 32 → PatchAt s.setting (stop_at s x)) → source < 32 → other < 32 → Live (stop_at s source) p → Live (stop_at s other) q → source ≡ other
-one_live seen work s source other p q h1 h2 h3 h4 h5 h6 = search (held_in, patch_round, some_is, arith)
+pub one_live : (seen : ℕ → Seen) (work : ℕ → Option Task) (s : StateValue) (number other : ℕ) (p q : Patch) → Rounds seen work s
+    → ((x : ℕ) → x < 64 → PatchAt s.setting (stop_at s x)) → number < 64 → other < 64 → Live (stop_at s number) p → Live (stop_at s other) q → number ≡ other
+one_live seen work s number other p q h1 h2 h3 h4 h5 h6 = search (held_in, patch_round, some_is, arith)
 
 -- What an event makes of a stop has to show, for all to hold after it.
-pub record StopGoes (s : StateValue) (source : ℕ) (to : Stop) : Type 0 where
+pub record StopGoes (s : StateValue) (number : ℕ) (to : Stop) : Type 0 where
   pub patch : PatchAt s.setting to
-  pub rests : ((p : Patch) → Live (stop_at s source) p → ⊥) → (p : Patch) → Live to p → ⊥
-  pub goes : (p : Patch) → Live (stop_at s source) p → Partial s.words (stop_at s source).task.func p
-      → (Live to p × (to.task.func ≡ (stop_at s source).task.func)) ⊎ (AllOk s.words × ((q : Patch) → Live to q → ⊥))
+  pub rests : ((p : Patch) → Live (stop_at s number) p → ⊥) → (p : Patch) → Live to p → ⊥
+  pub goes : (p : Patch) → Live (stop_at s number) p → Partial s.words (stop_at s number).task.func p
+      → (Live to p × (to.task.func ≡ (stop_at s number).task.func)) ⊎ (AllOk s.words × ((q : Patch) → Live to q → ⊥))
 
-patches_go : (s : StateValue) (source : ℕ) (to : Stop) → length s.stops ≡ 32 → Labelled s → PatchAt s.setting to → (other : ℕ) → other < 32 →
-    other ≡ source ⊎ other ≢ source
-    → PatchAt s.setting (stop_at (with_stop source s to) other)
-patches_go s source to h1 h2 h3 other h4 h5 = search (stop_changed, stop_kept, arith)
+patches_go : (s : StateValue) (number : ℕ) (to : Stop) → length s.stops ≡ 64 → Labelled s → PatchAt s.setting to → (other : ℕ) → other < 64 →
+    other ≡ number ⊎ other ≢ number
+    → PatchAt s.setting (stop_at (with_stop number s to) other)
+patches_go s number to h1 h2 h3 other h4 h5 = search (stop_changed, stop_kept, arith)
 
-rest_goes : (s : StateValue) (source : ℕ) (to : Stop) → length s.stops ≡ 32 → AllOk s.words
-    → ((other : ℕ) → other < 32 → other ≢ source → (p : Patch) → Live (stop_at s other) p → ⊥) → ((p : Patch) → Live to p → ⊥) → AtRest (with_stop source s to)
-rest_goes s source to h1 h2 h3 h4 = search (cases_eq, stop_changed, stop_kept, arith)
+rest_goes : (s : StateValue) (number : ℕ) (to : Stop) → length s.stops ≡ 64 → AllOk s.words
+    → ((other : ℕ) → other < 64 → other ≢ number → (p : Patch) → Live (stop_at s other) p → ⊥) → ((p : Patch) → Live to p → ⊥) → AtRest (with_stop number s to)
+rest_goes s number to h1 h2 h3 h4 = search (cases_eq, stop_changed, stop_kept, arith)
 
-patch_goes : (seen : ℕ → Seen) (work : ℕ → Option Task) (s : StateValue) (source : ℕ) (to : Stop) → Rounds seen work s → Labelled s → StopGoes s source to →
+patch_goes : (seen : ℕ → Seen) (work : ℕ → Option Task) (s : StateValue) (number : ℕ) (to : Stop) → Rounds seen work s → Labelled s → StopGoes s number to →
     (a : AtPatch s)
-    → a.source ≡ source ⊎ a.source ≢ source → AtRest (with_stop source s to) ⊎ AtPatch (with_stop source s to)
-patch_goes seen work s source to r l g a (inl same) =
-    let low : source < 32 = rw (← same) a.low in
-    let live : Live (stop_at s source) a.p = rw (← same) a.live in
-    let partial : Partial s.words (stop_at s source).task.func a.p = rw (← same) a.partial in
-    let st : stop_at (with_stop source s to) source ≡ to = stop_changed source s to (rw r.stops_are low) in
+    → a.number ≡ number ⊎ a.number ≢ number → AtRest (with_stop number s to) ⊎ AtPatch (with_stop number s to)
+patch_goes seen work s number to r l g a (inl same) =
+    let low : number < 64 = rw (← same) a.low in
+    let live : Live (stop_at s number) a.p = rw (← same) a.live in
+    let partial : Partial s.words (stop_at s number).task.func a.p = rw (← same) a.partial in
+    let st : stop_at (with_stop number s to) number ≡ to = stop_changed number s to (rw r.stops_are low) in
     elim (g.goes a.p live partial) [
-      | inl h ↦ (let f : to.task.func ≡ (stop_at s source).task.func = h.1 in
-          inr (record { source = source; low = low; p = a.p; live = rw st h.0; partial = rw (st, f) partial }))
-      | inr h ↦ inl (rest_goes s source to r.stops_are h.0
-          (λ other other_low ne p m. ne (one_live seen work s other source p a.p r l.patches other_low low m live)) h.1)
+      | inl h ↦ (let f : to.task.func ≡ (stop_at s number).task.func = h.1 in
+          inr (record { number = number; low = low; p = a.p; live = rw st h.0; partial = rw (st, f) partial }))
+      | inr h ↦ inl (rest_goes s number to r.stops_are h.0
+          (λ other other_low ne p m. ne (one_live seen work s other number p a.p r l.patches other_low low m live)) h.1)
     ]
-patch_goes seen work s source to r l g a (inr ne) =
-    let st : stop_at (with_stop source s to) a.source ≡ stop_at s a.source = stop_kept a.source source s to ne in
-    inr (record { source = a.source; low = a.low; p = a.p; live = rw st a.live; partial = rw st a.partial })
+patch_goes seen work s number to r l g a (inr ne) =
+    let st : stop_at (with_stop number s to) a.number ≡ stop_at s a.number = stop_kept a.number number s to ne in
+    inr (record { number = a.number; low = a.low; p = a.p; live = rw st a.live; partial = rw st a.partial })
 
 -- all holds after it
-pub stop_labelled : (seen : ℕ → Seen) (work : ℕ → Option Task) (s : StateValue) (source : ℕ) (to : Stop) → Rounds seen work s → Labelled s →
-    StopGoes s source to
-    → source < 32 → Labelled (with_stop source s to)
-stop_labelled seen work s source to r l g low = record {
+pub stop_labelled : (seen : ℕ → Seen) (work : ℕ → Option Task) (s : StateValue) (number : ℕ) (to : Stop) → Rounds seen work s → Labelled s →
+    StopGoes s number to
+    → number < 64 → Labelled (with_stop number s to)
+stop_labelled seen work s number to r l g low = record {
   keys_are = l.keys_are;
   sites_are = l.sites_are;
   keys = l.keys;
-  patches = λ other other_low. patches_go s source to r.stops_are l g.patch other other_low (cases_eq other source);
+  patches = λ other other_low. patches_go s number to r.stops_are l g.patch other other_low (cases_eq other number);
   either = elim l.either [
-    | inl rest ↦ inl (rest_goes s source to r.stops_are rest.ok (λ other other_low ne p. rest.none other other_low p) (g.rests (rest.none source low)))
-    | inr a ↦ patch_goes seen work s source to r l g a (cases_eq a.source source)
+    | inl rest ↦ inl (rest_goes s number to r.stops_are rest.ok (λ other other_low ne p. rest.none other other_low p) (g.rests (rest.none number low)))
+    | inr a ↦ patch_goes seen work s number to r l g a (cases_eq a.number number)
   ];
 }
 
@@ -158,5 +158,5 @@ live_same stop to p h1 h2 = search arith
 same_back : (stop to : Stop) → SamePatch stop to → SamePatch to stop
 same_back stop to same = record { is_open = sym same.is_open; task = sym same.task; phase = sym same.phase; patch = sym same.patch; acked = sym same.acked }
 
-pub same_goes : (s : StateValue) (source : ℕ) (to : Stop) → PatchAt s.setting (stop_at s source) → SamePatch (stop_at s source) to → StopGoes s source to
-same_goes s source to h1 h2 = search (live_same, same_back, arith)
+pub same_goes : (s : StateValue) (number : ℕ) (to : Stop) → PatchAt s.setting (stop_at s number) → SamePatch (stop_at s number) to → StopGoes s number to
+same_goes s number to h1 h2 = search (live_same, same_back, arith)

@@ -328,7 +328,7 @@ placed_call actor (calls.End id) s t p e = placed_ended actor id s t p e
 -- each event leaves each record in one place
 pub placed_goes : (actor : ℕ) (e : Event) (s t : StateValue) → Placed s → goes actor e s ≡ Ok t → Placed t
 placed_goes actor (event.Call e) s t p g = placed_call actor e s t p g
-placed_goes actor (event.Stop e) s t p g = placed_keeps s t p (stop_keeps_calls actor e s t (low_event actor _ t g).1)
+placed_goes actor (event.Stop e) s t p g = placed_keeps s t p (stop_keeps_calls actor e s t g)
 placed_goes actor (event.Label e) s t p g = placed_keeps s t p (label_keeps_calls actor e s t (low_event actor _ t g).1)
 
 -- and so does a run

@@ -202,7 +202,7 @@ turns_goes : (actor r : ℕ) (e : Event) (s t : StateValue) → Placed s → r <
     → Turns r actor e s t
 turns_goes actor r (event.Call e) s t p low order unlocks g = call_turns actor r e s t p low order unlocks g
 turns_goes actor r (event.Stop e) s t p low order unlocks g =
-    record { allows = tt; after = same_places s t r (stop_keeps_calls actor e s t (low_event actor _ t g).1).places_are }
+    record { allows = tt; after = same_places s t r (stop_keeps_calls actor e s t g).places_are }
 turns_goes actor r (event.Label e) s t p low order unlocks g =
     record { allows = tt; after = same_places s t r (label_keeps_calls actor e s t (low_event actor _ t g).1).places_are }
 

@@ -38,8 +38,8 @@ module _ (me : ℕ) where
   arg_none : (said : Option Note) → NoCalls (of_arg said)
   arg_none said = search arith
 
-  result_none : (said : Option Note) → NoCalls (of_result said)
-  result_none said = search arith
+  result_none : (cpu : ℕ) (said : Option Note) → NoCalls (of_result cpu said)
+  result_none cpu said = search arith
 
   nudge_none : (key found : ℕ) (put : Option ℕ) → NoCalls (of_nudge key found put)
   nudge_none key found put = search arith

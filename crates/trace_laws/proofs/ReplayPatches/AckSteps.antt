@@ -11,7 +11,7 @@ use Rattle.smp_words.specs.declared.field.Field.TheVariants as field
 use Rattle.smp_stop_steps.specs.declared.stage.RoundStage.TheVariants as round
 use Rattle.trace_model.specs.declared.event.Event.TheVariants as event
 use Rattle.trace_model.specs.declared.event.StopEvent.TheVariants as stops
-use Rattle.trace_model.specs.Step.{stop_goes as told_goes}
+use Rattle.trace_model.specs.Step.{inside_goes, stop_goes as told_goes}
 use Rattle.trace_events.specs.declared.step_events.StepEvents.TheVariants as told
 use Rattle.trace_laws.proofs.ReplayPatches.PatchSteps as patching
 use Rattle.trace_laws.proofs.ReplayStops.AckEvents as acking
@@ -77,19 +77,19 @@ module _ (known : Here) where
 
     abbrev Acked : ToldStop
     Acked = record (stop_at s slot) {
-      acked = slice_set (stop_at s slot).acked me 3;
+      acked = slice_set (stop_at s slot).acked me RUN;
       raiser = raiser_of (cond (At (Slot slot field.Ack) == 1) (Refills me) (p.now.stop slot).raising);
     }
 
     abbrev Y : ToldStop
     Y = record (stop_at s slot) {
-      acked = slice_set (stop_at s slot).acked me 3;
+      acked = slice_set (stop_at s slot).acked me RUN;
       raiser = raiser_of (cond (At (Slot slot field.Ack) == 1) (Refills me) (p.now.stop slot).raising);
       patch = Some (patch_left slot s);
     }
 
     abbrev X : Stop
-    X = acknowledged (p.now.stop slot) me 3 (At (Slot slot field.Ack))
+    X = acknowledged (p.now.stop slot) me RUN (At (Slot slot field.Ack))
 
     abbrev Q : StopState
     Q = acknowledges p me slot (Inside DISABLE_IRQ RUN) (At (Slot slot field.Ack))
@@ -100,24 +100,24 @@ module _ (known : Here) where
     sits : RoleStands p.now me (In slot w DISABLE_IRQ RUN Rests)
     sits = (so.0, so.1, so.2, so.3)
 
-    acked_now : acknowledged_in me 3 true (record (stop_at s slot) { patch = Some (patch_left slot s) })
+    acked_now : acknowledged_in me RUN true (record (stop_at s slot) { patch = Some (patch_left slot s) })
         ≡ record (stop_at s slot) {
-          acked = slice_set (stop_at s slot).acked me 3;
+          acked = slice_set (stop_at s slot).acked me RUN;
           raiser = raiser_of (cond (At (Slot slot field.Ack) == 1) (Refills me) (p.now.stop slot).raising);
           patch = Some (patch_left slot s);
         }
-    acked_now = acked_patch me 3 (stop_at s slot) (Some (patch_left slot s))
+    acked_now = acked_patch me RUN (stop_at s slot) (Some (patch_left slot s))
         ∙ ap (λ (z : ToldStop). record z { patch = Some (patch_left slot s) })
-        (acking.acknowledged_as known At' (λ j. refl) (λ j. refl) refl slot 2 w
+        (acking.acknowledged_as known At' (λ j. refl) (λ j. refl) refl slot DISABLE_IRQ w
         Idle
         sits (At (Slot slot field.Ack) == 1) refl)
 
-    made : goes me (event.Stop (stops.Ack 3)) s ≡ Ok (with_stop slot s (record (stop_at s slot) {
-      acked = slice_set (stop_at s slot).acked me 3;
+    made : goes me (event.Stop (stops.Ack RUN)) s ≡ Ok (with_stop slot s (record (stop_at s slot) {
+      acked = slice_set (stop_at s slot).acked me RUN;
       raiser = raiser_of (cond (At (Slot slot field.Ack) == 1) (Refills me) (p.now.stop slot).raising);
       patch = Some (patch_left slot s);
     }))
-    unfolding told_goes
+    unfolding told_goes inside_goes
     made =
         let here_told = patching.told_now known slot w so.3 so.4 on so.0 so.1 in
         made_low me below (acks_patch s me whole slot (omega (arith, here.below)) ((my known).inside ∙ so.0) (ap (λ (z : Task). z.kind) task ∙ so.4)
@@ -125,7 +125,7 @@ module _ (known : Here) where
         (patching.acked_low known slot w so.3 so.4 on so.0 so.1)
         (here_told.phase ∙ patching.phase_now known slot w so.3 so.4 on so.0 so.1) over
         ∙ (ap (λ (z : ToldStop). Ok (with_stop slot (with_patch slot (patch_left slot s) s) z))
-        (ap (acknowledged_in me 3 true) (stop_here s slot (record (stop_at s slot) { patch = Some (patch_left slot s) }) f.stops_are here.below) ∙ acked_now)
+        (ap (acknowledged_in me RUN true) (stop_here s slot (record (stop_at s slot) { patch = Some (patch_left slot s) }) f.stops_are here.below) ∙ acked_now)
         ∙ ap (λ (z : List ToldStop). Ok (record s { stops = z })) (set-set s.stops slot (record (stop_at s slot) { patch = Some (patch_left slot s) }) Y)))
 
     stood_now : X.standing me ≡ Inside RUN RUN
@@ -143,7 +143,7 @@ module _ (known : Here) where
 
     told_now : StopIs X Y
     told_now = patching.told_patched X Acked (Some (patch_left slot s))
-        (told_acked known At' (λ j. refl) (λ j. refl) slot so.0 open_now X 3
+        (told_acked known At' (λ j. refl) (λ j. refl) slot so.0 open_now X RUN
         (raiser_of (cond (At (Slot slot field.Ack) == 1) (Refills me) (p.now.stop slot).raising)) stood_now refl refl refl refl
         (ap is_called so.1) (ap given_by so.1) (λ d ne. put_other (p.now.stop slot).standing me (Inside RUN RUN) d ne)) kind_is none_called
 
@@ -186,7 +186,7 @@ module _ (known : Here) where
         in_it : (j : ℕ) → p.now.inside me ≡ Some j → InsideIs Q (with_stop slot s Y) Old me j
         in_it j e = search (so, it, arith)
 
-    acks : ReachesStops Q At' (slice_set pasts me Old) s ((me, event.Stop (stops.Ack 3)) ∷ [])
+    acks : ReachesStops Q At' (slice_set pasts me Old) s ((me, event.Stop (stops.Ack RUN)) ∷ [])
     acks = stop_step p Q At At' pasts s me Old below sized cpus_are f (λ j. refl) (λ j. refl) slot X Y (cpu_at s me) here.below
         (record {
           stop_is = λ j. refl;
@@ -198,7 +198,7 @@ module _ (known : Here) where
           gate = refl;
           work = refl;
           patch = inr (patching.alone_now known slot w so.3 so.4 on so.0 so.1);
-        }) told_now ((me, event.Stop (stops.Ack 3)) ∷ []) (with_stop slot s Y, (made, refl)) mine
+        }) told_now ((me, event.Stop (stops.Ack RUN)) ∷ []) (with_stop slot s Y, (made, refl)) mine
 
   pub acks_made : (x : Visit) (answer : ℕ) (ran : Bool) → (w : Work) → x.acked ≡ DISABLE_IRQ → ran ≡ true → (count : ℕ)
       → shown.seat me ≡ Alters x.slot w count (plan_at U w count) [] → AreEntries U s.words → Does (Advance x (round.Acknowledge answer ran))
@@ -209,7 +209,7 @@ module _ (known : Here) where
       let y = visit_acked x answer ran in
       let goes_on = stop_goes (record C { visit = Some y }) (Advance y (round.Refill ran)) in
       let rests = turn_ends (record C { visit = Some y }) y.acked ran in
-      let said : with_on (stops.Ack 3) rests.note ≡ told.One (event.Stop (stops.Ack 3)) = rw (two, is_true) refl in
+      let said : with_on (stops.Ack RUN) rests.note ≡ told.One (event.Stop (stops.Ack RUN)) = rw (two, is_true) refl in
       subst (λ (z : Standing). ReachesStops (acknowledges p me x.slot z found) (put_word At (Slot x.slot field.Ack) (one_less found)) (slice_set pasts me Old) s
       (by me (with_on (stops.Ack Old.phase) (cond (found == 1) goes_on rests).note))) (sym st.1)
       (subst (λ (n : ℕ). ReachesStops (acknowledges p me x.slot (Inside DISABLE_IRQ RUN) found) (put_word At (Slot x.slot field.Ack) (one_less found))
@@ -217,8 +217,8 @@ module _ (known : Here) where
       (subst (λ (z : StepEvents). ReachesStops (acknowledges p me x.slot (Inside DISABLE_IRQ RUN) found) (put_word At (Slot x.slot field.Ack) (one_less found))
       (slice_set pasts me Old) s (by me z)) (sym (said_by (found == 1) goes_on rests refl said)) (acks x.slot w count at_seat entries)))
     where
-      said_by : (last : Bool) (a b : StopOutcome) → with_on (stops.Ack 3) a.note ≡ told.One (event.Stop (stops.Ack 3))
-          → with_on (stops.Ack 3) b.note ≡ told.One (event.Stop (stops.Ack 3))
-          → with_on (stops.Ack 3) (cond last a b).note ≡ told.One (event.Stop (stops.Ack 3))
+      said_by : (last : Bool) (a b : StopOutcome) → with_on (stops.Ack RUN) a.note ≡ told.One (event.Stop (stops.Ack RUN))
+          → with_on (stops.Ack RUN) b.note ≡ told.One (event.Stop (stops.Ack RUN))
+          → with_on (stops.Ack RUN) (cond last a b).note ≡ told.One (event.Stop (stops.Ack RUN))
       said_by true a b k l = k
       said_by false a b k l = l

@@ -12,8 +12,8 @@ use Rattle.trace_model.specs.Stop.{answer_by}
 use Rattle.trace_laws.proofs.ReplayPatches.PlannedStores.{plan_leads}
 use Rattle.smp_words.specs.declared.phase.TheConstants.{RUN}
 
--- the active CPU of a patch, at phase 3, which it has not acknowledged
-module _ (s : StateValue) (me : ℕ) (whole : s.setting.without ≡ nothing_left_out) (source : ℕ) (below : source < 32)
+-- the active CPU of a patch, at RUN, which it has not acknowledged
+module _ (s : StateValue) (me : ℕ) (whole : s.setting.without ≡ nothing_left_out) (source : ℕ) (below : source < 64)
     (inside : (cpu_at s me).inside ≡ Some source) (kind : (stop_at s source).task.kind ≡ APatch) (active : has (stop_at s source).task.active me ≡ true)
     (low : acked_by (stop_at s source) me < RUN) (at : (stop_at s source).phase ≡ RUN) where
   -- it makes the store that is next
@@ -23,11 +23,11 @@ module _ (s : StateValue) (me : ℕ) (whole : s.setting.without ≡ nothing_left
   makes_key key word next =
       rw (
         inside,
-        lt-ltb source 32 below,
+        lt-ltb source 64 below,
         kind,
         active,
-        lt-leb 3 (acked_by (stop_at s source) me) low,
-        eq-eqb (stop_at s source).phase 3 at,
+        lt-leb RUN (acked_by (stop_at s source) me) low,
+        eq-eqb (stop_at s source).phase RUN at,
         next,
         eq-eqb key key refl,
         eq-eqb word word refl,
@@ -39,11 +39,11 @@ module _ (s : StateValue) (me : ℕ) (whole : s.setting.without ≡ nothing_left
   makes_site site word next =
       rw (
         inside,
-        lt-ltb source 32 below,
+        lt-ltb source 64 below,
         kind,
         active,
-        lt-leb 3 (acked_by (stop_at s source) me) low,
-        eq-eqb (stop_at s source).phase 3 at,
+        lt-leb RUN (acked_by (stop_at s source) me) low,
+        eq-eqb (stop_at s source).phase RUN at,
         next,
         eq-eqb site site refl,
         eq-eqb word word refl,
@@ -51,17 +51,17 @@ module _ (s : StateValue) (me : ℕ) (whole : s.setting.without ≡ nothing_left
 
   -- it acknowledges the phase once its patch is over
   pub acks_patch : next_store source s ≡ None
-      → ack_by me 3 s
-      ≡ Ok (with_stop source (with_patch source (patch_left source s) s) (acknowledged me 3 true (stop_at
+      → ack_by me RUN s
+      ≡ Ok (with_stop source (with_patch source (patch_left source s) s) (acknowledged me RUN true (stop_at
       (with_patch source (patch_left source s) s) source)))
   unfolding ack_by
   acks_patch over =
       rw (
         inside,
-        lt-ltb source 32 below,
+        lt-ltb source 64 below,
         kind,
-        lt-leb 3 (acked_by (stop_at s source) me) low,
-        eq-eqb (stop_at s source).phase 3 at,
+        lt-leb RUN (acked_by (stop_at s source) me) low,
+        eq-eqb (stop_at s source).phase RUN at,
         active,
         kind,
         over,

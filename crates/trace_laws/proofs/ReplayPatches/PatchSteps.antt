@@ -22,7 +22,7 @@ use Rattle.trace_laws.proofs.ReplayPatches.OnePatcher.{alone_is, first_is, nobod
 use Rattle.trace_laws.proofs.ReplayPatches.PatchEvents.{AreEntries, count_found, makes_key, makes_site, part_leads, part_stored}
 use Rattle.trace_laws.proofs.ReplayPatches.StoredWords.{IsStoreOf, IsThere, front_is, stored_keys, stored_keys_are, stored_sites}
 use Rattle.trace_laws.proofs.ReplayPatches.StoredWords.{stored_sites_are}
-use Rattle.trace_laws.proofs.ReplayStops.ChangedStates.{IsAlike, IsAlone, cpu_alike, patch_else, stop_else, stop_here}
+use Rattle.trace_laws.proofs.ReplayStops.ChangedStates.{IsAlike, IsAlone, cpu_alike, patch_else, still_no_more, stop_else, stop_here}
 use Rattle.trace_laws.proofs.ReplayStops.TurnSteps.{Made, seat_is, sits, st, then_if}
 use Rattle.trace_laws.proofs.{ReplayCalls.KeptPasts.past_else, ReplayCalls.KeptPasts.past_here, ReplayCalls.StepEvents.by, ReplayStops.Here.Here}
 use Rattle.trace_laws.proofs.{ReplayStops.Here.parts, ReplayStops.StepEvents.ReachesStops, ReplayStops.StepEvents.member_as, ReplayStops.StepEvents.quiet_step}
@@ -51,7 +51,7 @@ module _ (known : Here) where
   at_stage : (w : Visit) (stage : RoundStage) → C.stage ≡ Some (Advance w stage) → SitsInRound U me C.changes w stage (shown.seat me)
   at_stage = sits known
 
-  -- a CPU at phase 3 of a patch, of which it is the active one
+  -- a CPU at RUN of a patch, of which it is the active one
   module _ (slot : ℕ) (w : Work) (work : (p.now.stop slot).work ≡ w) (kind : w.kind ≡ Patch) (active : has w.active me ≡ true)
       (inside : p.now.inside me ≡ Some slot) (stood : (p.now.stop slot).standing me ≡ Inside DISABLE_IRQ RUN) where
     i : InsideIs p s Old me slot
@@ -114,11 +114,11 @@ module _ (known : Here) where
         apart z = absurd cc
 
   -- the key is loaded, and the patch has begun
-  begins_at : (x : Visit) (key : ℕ) (w : Work) → shown.seat me ≡ In x.slot w 2 3 Rests → w.kind ≡ Patch → has w.active me ≡ true
+  begins_at : (x : Visit) (key : ℕ) (w : Work) → shown.seat me ≡ In x.slot w DISABLE_IRQ RUN Rests → w.kind ≡ Patch → has w.active me ≡ true
       → ReachesStops (record p { now = key_loaded U p.now me key (At (word.Key key)) (p.now.inside me) }) At (slice_set pasts me Old) s
       (by me (cond (Old.phase == RUN) told.Nothing (told.One (event.Label (labels.Key key (is_on (At (word.Key key))))))))
   begins_at x key w at_seat kind active =
-      let so = st known x.slot 2 3 w Rests at_seat in
+      let so = st known x.slot DISABLE_IRQ RUN w Rests at_seat in
       let n : Present = record (p.now) { patching = patch_begun U me (p.now.stop x.slot).work (At (word.Key key)) } in
       let q : StopState = record p { now = n } in
       let run : (is_at_run ((p.now.stop x.slot).standing me) && is_patch (p.now.stop x.slot).work.kind) ≡ true =
@@ -142,11 +142,11 @@ module _ (known : Here) where
         answer = (my known).answer;
         reads = (my known).reads;
       } in
-      rw (loaded, eq-eqb Old.phase 3 (old_phase x.slot w so.3 kind active so.0 so.1))
+      rw (loaded, eq-eqb Old.phase RUN (old_phase x.slot w so.3 kind active so.0 so.1))
       (quiet_step p q At At pasts s me Old below sized cpus_are f (λ j. refl) (λ j. refl) refl (λ j. refl) (λ d ne. refl) (λ d ne. refl) (λ d ne. refl)
       (inr (alone_now x.slot w so.3 kind active so.0 so.1)) mine)
     where
-      apart : (j : ℕ) (y : Work) (count : ℕ) (made rest : List Change) → In x.slot w 2 3 Rests ≡ Alters j y count made rest → ⊥
+      apart : (j : ℕ) (y : Work) (count : ℕ) (made rest : List Change) → In x.slot w DISABLE_IRQ RUN Rests ≡ Alters j y count made rest → ⊥
       apart j y count made rest z = absurd cc
 
       begun : (j : ℕ) (g : Calling) → p.now.patching ≡ Whole → MadeIs s.words p.now.patching g (stop_at s j).patch
@@ -295,6 +295,7 @@ module _ (known : Here) where
               (f.stops slot ((my known).stop slot Is.0).below) (kind_is slot w Is.3 Is.4 on Is.0 Is.1) (none_called slot w Is.3 Is.4 on Is.0 Is.1))
           | inr ne ↦ rw (stop_else s slot Told j ne) (f.stops j l)
         ]);
+        no_more = still_no_more s slot Told ((my known).stop slot Is.0).below f.no_more;
         cpus_are = λ d. elim (cases_eq d me) [
           | inl e ↦ rw (e, past_here pasts me Old sized below) (record {
             inside = (my known).inside ∙ sym (inside me);

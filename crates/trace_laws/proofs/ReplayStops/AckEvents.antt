@@ -1,6 +1,6 @@
 -- The event of an acknowledgement: which CPU is the last.
 use Rattle.trace_laws.proofs.Names.{Bool, Event, List, Multi, None, Ok, One, Option, Some, Task, acked_by, and_parts, ap, arith, cases_eq, cond, cpu_at}
-use Rattle.trace_laws.proofs.Names.{eqb-false, eqb-true, false, goes, has, inl, inr, ne_eqb, refl, slice_set, stop_at, stop_goes, subst, sym, true}
+use Rattle.trace_laws.proofs.Names.{eqb-false, eqb-true, false, goes, has, inl, inr, inside_goes, ne_eqb, refl, slice_set, stop_at, stop_goes, subst, sym, true}
 use Rattle.trace_laws.proofs.Names.{with_stop, ℕ, ◌&&◌, ◌+◌, ◌<◌, ◌==◌, ◌∙◌, ◌≡◌, ◌≢◌}
 use Rattle.trace_laws.proofs.ReplayNames.{AckShows, Calling, In, Inside, InsideIs, Keeps, Key, Nobody, OpenIs, OpenShows, Past, Raising, Refills, Rests, Site}
 use Rattle.trace_laws.proofs.ReplayNames.{Slot, RoleStands, Stop, StopState, ToldStop, Word, Work, acked, acknowledged_in, count_behind}
@@ -112,8 +112,8 @@ module _ (known : Here) (at' : Word → ℕ) (keys : (key : ℕ) → at' (Key ke
     -- the premises of each phase
     acks_as : (p.now.stop slot).work.kind ≢ One → (a + 1 ≡ DISABLE_IRQ → p.now.irq me ≡ false)
         → (a + 1 ≡ RUN → has (p.now.stop slot).work.active me ≡ true → ((p.now.stop slot).work.kind ≡ Multi) × (has_entered (p.calling me) ≡ true))
-        → stop_goes me (stops.Ack (a + 1)) s ≡ Ok (with_stop slot s (acknowledged_in me (a + 1) true (stop_at s slot)))
-    unfolding stop_goes
+        → inside_goes me (stops.Ack (a + 1)) s ≡ Ok (with_stop slot s (acknowledged_in me (a + 1) true (stop_at s slot)))
+    unfolding inside_goes
     acks_as kind off called =
         let acked_is : acked_by (stop_at s slot) me ≡ a = (was.members me below).acked_is ∙ ap acked stood in
         let low : acked_by (stop_at s slot) me < a + 1 = omega (arith, acked_is) in
@@ -121,9 +121,9 @@ module _ (known : Here) (at' : Word → ℕ) (keys : (key : ℕ) → at' (Key ke
         let in_told : (cpu_at s me).inside ≡ Some slot = (my known).inside ∙ inside in
         let kind_told : (stop_at s slot).task.kind ≢ One = λ e. kind (sym (ap (λ (z : Task). z.kind) was.task) ∙ e) in
         let active_told : has (stop_at s slot).task.active me ≡ has (p.now.stop slot).work.active me = ap (λ (z : Task). has z.active me) was.task in
-        elim (cases_eq (a + 1) 2) [
+        elim (cases_eq (a + 1) DISABLE_IRQ) [
           | inl two ↦ subst (λ (n : ℕ). acked_by (stop_at s slot) me < n → (stop_at s slot).phase ≡ n → p.now.irq me ≡ false
-              → stop_goes me (stops.Ack n) s ≡ Ok (with_stop slot s (acknowledged_in me n true (stop_at s slot)))) (sym two)
+              → inside_goes me (stops.Ack n) s ≡ Ok (with_stop slot s (acknowledged_in me n true (stop_at s slot)))) (sym two)
               (λ l at_two o. acks_two in_told kind_told l at_two ((my known).irq ∙ o)) low phase (off two)
           | inr not_two ↦ by_run in_told kind_told low phase not_two active_told called (((a + 1) == RUN) && has (stop_at s slot).task.active me) refl
         ]
@@ -131,7 +131,7 @@ module _ (known : Here) (at' : Word → ℕ) (keys : (key : ℕ) → at' (Key ke
         acks_two : (cpu_at s me).inside ≡ Some slot → (stop_at s slot).task.kind ≢ One → acked_by (stop_at s slot) me < DISABLE_IRQ
             → (stop_at s slot).phase ≡ DISABLE_IRQ
             → (cpu_at s me).irq ≡ false
-            → stop_goes me (stops.Ack 2) s ≡ Ok (with_stop slot s (acknowledged_in me 2 true (stop_at s slot)))
+            → inside_goes me (stops.Ack DISABLE_IRQ) s ≡ Ok (with_stop slot s (acknowledged_in me DISABLE_IRQ true (stop_at s slot)))
         acks_two in_told kind l two o = acks_disabled s me whole slot (omega (arith, i.below)) in_told kind l two o
 
         by_run : (cpu_at s me).inside ≡ Some slot → (stop_at s slot).task.kind ≢ One → acked_by (stop_at s slot) me < a + 1
@@ -139,9 +139,9 @@ module _ (known : Here) (at' : Word → ℕ) (keys : (key : ℕ) → at' (Key ke
             → has (stop_at s slot).task.active me ≡ has (p.now.stop slot).work.active me
             → (a + 1 ≡ RUN → has (p.now.stop slot).work.active me ≡ true → ((p.now.stop slot).work.kind ≡ Multi) × (has_entered (p.calling me) ≡ true))
             → (b : Bool) → (((a + 1) == RUN) && has (stop_at s slot).task.active me) ≡ b
-            → stop_goes me (stops.Ack (a + 1)) s ≡ Ok (with_stop slot s (acknowledged_in me (a + 1) true (stop_at s slot)))
+            → inside_goes me (stops.Ack (a + 1)) s ≡ Ok (with_stop slot s (acknowledged_in me (a + 1) true (stop_at s slot)))
         by_run in_told kind l phase not_two active_told called false e =
-            acks_other s me whole slot (omega (arith, i.below)) in_told (a + 1) kind l phase (ne_eqb (a + 1) 2 not_two) e
+            acks_other s me whole slot (omega (arith, i.below)) in_told (a + 1) kind l phase (ne_eqb (a + 1) DISABLE_IRQ not_two) e
         by_run in_told kind l phase not_two active_told called true e =
             let k = and_parts ((a + 1) == RUN) (has (stop_at s slot).task.active me) e in
             let three = eqb-true (a + 1) RUN k.0 in
@@ -158,5 +158,6 @@ module _ (known : Here) (at' : Word → ℕ) (keys : (key : ℕ) → at' (Key ke
           acked = slice_set (stop_at s slot).acked me (a + 1);
           raiser = raiser_of (cond (at (Slot slot field.Ack) == 1) (Refills me) (p.now.stop slot).raising);
         }))
+    unfolding stop_goes
     ack_made kind off called = made_low me below (acks_as kind off called
         ∙ ap (λ (z : ToldStop). Ok (with_stop slot s z)) (acknowledged_as (at (Slot slot field.Ack) == 1) refl))

@@ -18,7 +18,7 @@ use Rattle.trace_laws.proofs.ReplayStops.TurnSteps as turns
 use Rattle.trace_laws.proofs.{ReplayCalls.StepEvents.by, ReplayStops.Here.Here, ReplayStops.Here.my, ReplayStops.Here.parts, ReplayStops.PhaseEvents.acks_told}
 use Rattle.trace_laws.proofs.{ReplayStops.PhaseEvents.leaves_told, ReplayStops.PhaseEvents.told_acked, ReplayStops.StageSteps.Accepted}
 use Rattle.trace_laws.proofs.{ReplayStops.StepEvents.ReachesStops, ReplayStops.StepKinds.Goes}
-use Rattle.smp_words.specs.declared.phase.TheConstants.{DISABLE_IRQ, RUN, EXIT}
+use Rattle.smp_words.specs.declared.phase.TheConstants.{PREPARE, DISABLE_IRQ, RUN, EXIT}
 
 module _ (known : Here) where
   open known use {p, shown, me, below, pasts, s, f}
@@ -108,7 +108,7 @@ module _ (known : Here) where
       where
         off_two : (n : ℕ) → n + 1 ≡ DISABLE_IRQ → irq_of (In slot w n (n + 1) Rests) ≡ false
         off_two n two =
-            let one : n ≡ 1 = omega arith in
+            let one : n ≡ PREPARE = omega arith in
             rw one refl
 
     abbrev IsAcked : Bool → Bool → Type 0

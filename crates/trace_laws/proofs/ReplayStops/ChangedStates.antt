@@ -1,11 +1,11 @@
 -- A state of the model with one stop or one CPU's part of the stops changed, and the stops of the machine with which it agrees.
-use Rattle.trace_laws.proofs.Names.{List, Some, StateValue, arith, cases_eq, closed, cpu_at, get_or-set_other, get_or-set_same, has, has_run, inl, inr}
-use Rattle.trace_laws.proofs.Names.{length, slice_set, stop_at, sym, true, with_stop, ℕ, ◌<◌, ◌∙◌, ◌≡◌, ◌≢◌}
+use Rattle.trace_laws.proofs.Names.{List, Some, StateValue, ap, arith, cases_eq, closed, cpu_at, false, get_or-set_other, get_or-set_same, has, has_run, inl}
+use Rattle.trace_laws.proofs.Names.{inr, length, slice_set, stop_at, sym, true, with_stop, ℕ, ◌<◌, ◌∙◌, ◌≡◌, ◌≢◌, ◌≤◌}
 use Rattle.trace_laws.proofs.ReplayNames.{CpuIs, FollowsStops, InsideIs, Key, Past, Patch, PatchIs, Site, Stop, StopIs, StopState, ToldStop, Word}
 use Rattle.trace_laws.proofs.ReplayNames.{calls_in, cpus, past_at, put, put_other, put_same}
 use Rattle.trace_laws.proofs.{ReplayCalls.KeptPasts.past_else, ReplayCalls.KeptPasts.past_here}
 
-pub stop_here : (s : StateValue) (source : ℕ) (x : ToldStop) → length s.stops ≡ 32 → source < cpus → stop_at (with_stop source s x) source ≡ x
+pub stop_here : (s : StateValue) (source : ℕ) (x : ToldStop) → length s.stops ≡ 64 → source < cpus → stop_at (with_stop source s x) source ≡ x
 stop_here s source x l b = get_or-set_same s.stops source x (closed 0) (omega arith)
 
 pub stop_else : (s : StateValue) (source : ℕ) (x : ToldStop) (j : ℕ) → j ≢ source → stop_at (with_stop source s x) j ≡ stop_at s j
@@ -64,9 +64,10 @@ module _ (p q : StopState) (at at' : Word → ℕ) (pasts : List Past) (s t : St
   pub record Steps : Type 0 where
     pub below : me < cpus
     pub pasts_are : length pasts ≡ 32
-    pub stops_are : length t.stops ≡ 32
+    pub stops_are : length t.stops ≡ 64
     pub gate : t.gate ≡ q.gate
     pub stops : (source : ℕ) → source < cpus → StopIs (q.now.stop source) (stop_at t source)
+    pub no_more : (number : ℕ) → cpus ≤ number → (stop_at t number).is_open ≡ false
     pub mine : CpuIs q t past me
     pub others : (cpu : ℕ) → cpu ≢ me → IsAlike p q s t cpu
     pub words : t.words ≡ s.words
@@ -80,6 +81,7 @@ module _ (p q : StopState) (at at' : Word → ℕ) (pasts : List Past) (s t : St
     sites_are = rw k.words f.sites_are;
     gate = k.gate;
     stops = k.stops;
+    no_more = k.no_more;
     cpus_are = λ cpu. elim (cases_eq cpu me) [
       | inl e ↦ rw (e, past_here pasts me past k.pasts_are k.below) k.mine
       | inr ne ↦ rw (past_else pasts me past cpu ne) (cpu_alike p q s t cpu (past_at pasts cpu) (k.others cpu ne) (f.cpus_are cpu))
@@ -88,8 +90,13 @@ module _ (p q : StopState) (at at' : Word → ℕ) (pasts : List Past) (s t : St
     sites = λ site. rw (k.words, k.sites site) (f.sites site);
   }
 
+-- a stop of a source is set, and no other is open
+pub still_no_more : (s : StateValue) (source : ℕ) (x : ToldStop) → source < cpus → ((number : ℕ) → cpus ≤ number → (stop_at s number).is_open ≡ false)
+    → (number : ℕ) → cpus ≤ number → (stop_at (with_stop source s x) number).is_open ≡ false
+still_no_more s source x below shut number past = ap (λ (z : ToldStop). z.is_open) (stop_else s source x number (omega (arith, below, past))) ∙ shut number past
+
 -- one stop is set
-pub stops_set : (p q : StopState) (s : StateValue) (source : ℕ) (x : Stop) (y : ToldStop) → length s.stops ≡ 32 → source < cpus
+pub stops_set : (p q : StopState) (s : StateValue) (source : ℕ) (x : Stop) (y : ToldStop) → length s.stops ≡ 64 → source < cpus
     → ((j : ℕ) → j < cpus → StopIs (p.now.stop j) (stop_at s j)) → ((j : ℕ) → q.now.stop j ≡ put p.now.stop source x j) → StopIs x y
     → (j : ℕ) → j < cpus → StopIs (q.now.stop j) (stop_at (with_stop source s y) j)
 stops_set p q s source x y h1 h2 h3 h4 h5 j h6 = search (cases_eq, stop_here, put_same, stop_else, put_other, arith)

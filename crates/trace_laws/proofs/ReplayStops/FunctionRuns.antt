@@ -1,7 +1,7 @@
 -- A CPU runs the function of its stop, answers and completes.
 use Rattle.trace_laws.proofs.Names.{Bool, CpuState, Event, List, Multi, None, Ok, One, Option, Some, Task, [], acked_by, ap, arith, cpu_at, eq-eqb, false}
-use Rattle.trace_laws.proofs.Names.{get_or-set_other, get_or-set_same, goes, has, has_run, in_stop, inl, inr, is_cpu, length-set, pos, refl, slice_set, stop_at}
-use Rattle.trace_laws.proofs.Names.{stop_goes, sym, true, with_cpu, with_stop, ℕ, ◌<◌, ◌∙◌, ◌∷◌, ◌≡◌, ◌≢◌, ◌≤◌, ◌⊎◌}
+use Rattle.trace_laws.proofs.Names.{get_or-set_other, get_or-set_same, goes, has, has_run, in_stop, inl, inr, inside_goes, is_cpu, length-set, pos, refl}
+use Rattle.trace_laws.proofs.Names.{slice_set, stop_at, stop_goes, sym, true, with_cpu, with_stop, ℕ, ◌<◌, ◌∙◌, ◌∷◌, ◌≡◌, ◌≢◌, ◌≤◌, ◌⊎◌}
 use Rattle.trace_laws.proofs.ReplayNames.{Answering, Called, Calling, Completed, Idle, Inside, InsideIs, IsSized, Key, MemberIs, OpenIs, Past, Patch, Site}
 use Rattle.trace_laws.proofs.ReplayNames.{Stop, StopIs, StopState, ToldStop, Word, acked, as_i32, cpus, given_by, has_called, has_entered, is_called, past_at}
 use Rattle.trace_laws.proofs.ReplayNames.{raiser_of, stands}
@@ -88,7 +88,7 @@ module _ (known : Here) (at' : Word → ℕ) (keys : (key : ℕ) → at' (Key ke
         → ((p.now.stop slot).work.kind ≡ One) ⊎ (((p.now.stop slot).work.kind ≡ Multi) × ((has (p.now.stop slot).work.active me ≡ true) × ((a ≡ DISABLE_IRQ) ×
         ((p.now.stop slot).phase ≡ RUN))))
         → (p.now.stop slot).work.func ≡ func → (p.now.stop slot).work.arg ≡ arg → Leads q (past_at pasts me) ((me, event.Stop (stops.Run func arg)) ∷ [])
-    unfolding stop_goes
+    unfolding stop_goes inside_goes
     runs_told q a l func arg calling stood idle called g kinds func_is arg_is =
         let y = record (stop_at s slot) { ran = slice_set (stop_at s slot).ran me true } in
         let t = with_stop slot s y in
@@ -193,7 +193,7 @@ module _ (known : Here) (at' : Word → ℕ) (keys : (key : ℕ) → at' (Key ke
           answers = slice_set (stop_at s slot).answers me (Some
               (past_at pasts me).answer);
         })) (in_stop None (cpu_at s me)))
-    unfolding stop_goes
+    unfolding stop_goes inside_goes
     complete_one kind called =
         made_low me below (completes_one s me whole slot (omega (arith, i.below)) ((my known).inside ∙ inside) (past_at pasts me).answer
         (ap (λ (z : Task). z.kind) was.task ∙ kind) (i.ran ∙ rw kind called))
@@ -206,7 +206,7 @@ module _ (known : Here) (at' : Word → ℕ) (keys : (key : ℕ) → at' (Key ke
           answers = slice_set (stop_at s slot).answers me (Some
               (past_at pasts me).answer);
         })) (in_stop None (cpu_at s me)))
-    unfolding stop_goes
+    unfolding stop_goes inside_goes
     complete_round kind high not_last on may =
         made_low me below (completes_round s me whole slot (omega (arith, i.below)) ((my known).inside ∙ inside) (past_at pasts me).answer
         (λ x. kind (sym (ap (λ (z : Task). z.kind) was.task) ∙ x)) (omega (arith, member.acked_is, high)) (ap (λ (z : Option ℕ). is_cpu z me) was.raiser

@@ -53,6 +53,7 @@ module _ (known : Here)
       sites_are = f.sites_are;
       gate = f.gate ∙ sym gate;
       stops = λ j l. subst (λ (z : Stop). StopIs z (stop_at s j)) (sym (stop j)) (f.stops j l);
+      no_more = f.no_more;
       cpus_are = λ d. elim (cases_eq d me) [
         | inl e ↦ rw (e, past_here pasts me Old sized below) (cpu_alike p q s (record s { words = stored (Key key) new s.words }) me Old (alike me) (my known))
         | inr ne ↦ rw (past_else pasts me Old d ne) (cpu_alike p q s (record s { words = stored (Key key) new s.words }) d (past_at pasts d) (alike d)

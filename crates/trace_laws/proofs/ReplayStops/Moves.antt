@@ -1,6 +1,6 @@
 -- A CPU enters a stop, looks at its phase, runs its function, answers and completes.
-use Rattle.trace_laws.proofs.Names.{Bool, CpuState, Event, Kind, List, None, Ok, One, Option, Some, Task, [], acked_by, and_right, ap, arith, cpu_at}
-use Rattle.trace_laws.proofs.Names.{eq-eqb, false, get_or-set_other, get_or-set_same, handles_nothing, has, has_run, in_stop, length-set, pos, refl}
+use Rattle.trace_laws.proofs.Names.{Bool, CpuState, Event, Kind, List, None, Ok, One, Option, Some, Task, [], acked_by, and_right, ap, arith, cpu_at, eq-eqb}
+use Rattle.trace_laws.proofs.Names.{false, get_or-set_other, get_or-set_same, handles_nothing, has, has_run, in_stop, inside_goes, length-set, pos, refl}
 use Rattle.trace_laws.proofs.Names.{slice_index_or, slice_set, stop_at, stop_goes, subst, sym, true, with_cpu, with_interrupts, with_stop, ℕ, ◌<◌, ◌∙◌, ◌∷◌}
 use Rattle.trace_laws.proofs.Names.{◌≡◌, ◌≢◌}
 use Rattle.trace_laws.proofs.ReplayNames.{AnswerIs, Called, Calling, Idle, Inside, InsideIs, Key, MadeIs, MemberIs, OpenIs, Past, Patch, Site, Standing, Stop}
@@ -39,7 +39,7 @@ module _ (known : Here) (at' : Word → ℕ) (keys : (key : ℕ) → at' (Key ke
       → (p.now.stop slot).standing me ≡ Called
       → p.calling me ≡ Idle → Is q slot (stands (p.now.stop slot) me (Inside 0 0)) (Some slot) (p.now.irq me) (p.calling me)
       → Leads q (past_at pasts me) ((me, event.Stop (stops.Enter slot)) ∷ [])
-  unfolding stop_goes
+  unfolding stop_goes inside_goes
   enters_told q slot l inside_none is_open called idle g =
       let was = shown slot l is_open in
       let e = stop_at s slot in
@@ -125,9 +125,9 @@ module _ (known : Here) (at' : Word → ℕ) (keys : (key : ℕ) → at' (Key ke
     -- interrupts go off
     pub off_step : (q : StopState) → Is q slot (stands (p.now.stop slot) me (Inside a found)) (Some slot) false (p.calling me) → (found ≢ 0
         → past.phase ≡ found)
-        → (p.now.stop slot).work.kind ≢ One → (p.now.stop slot).is_open ≡ true → p.now.irq me ≡ true → a < 2 → (p.now.stop slot).phase ≡ DISABLE_IRQ
+        → (p.now.stop slot).work.kind ≢ One → (p.now.stop slot).is_open ≡ true → p.now.irq me ≡ true → a < DISABLE_IRQ → (p.now.stop slot).phase ≡ DISABLE_IRQ
         → handles_nothing (cpu_at s me) ≡ Ok tt → Leads q past ((me, event.Stop stops.Off) ∷ [])
-    unfolding stop_goes
+    unfolding stop_goes inside_goes
     off_step q g phase kind is_open irq low at_two quiet =
         let was = shown slot i.below is_open in
         let c = with_interrupts false (cpu_at s me) in

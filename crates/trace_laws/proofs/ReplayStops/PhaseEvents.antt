@@ -1,7 +1,7 @@
 -- A CPU acknowledges a phase, and raises it.
 use Rattle.trace_laws.proofs.Names.{Bool, CpuState, Event, List, None, Ok, One, Option, Some, Task, [], acked_by, ap, arith, cpu_at, false, get_or-set_other}
-use Rattle.trace_laws.proofs.Names.{get_or-set_same, goes, has, has_run, is_cpu, length-set, pos, refl, slice_set, stop_at, stop_goes, subst, sym, true}
-use Rattle.trace_laws.proofs.Names.{with_cpu, with_interrupts, with_stop, ℕ, ◌-◌, ◌<◌, ◌∙◌, ◌∷◌, ◌≡◌, ◌≢◌, ◌≤◌}
+use Rattle.trace_laws.proofs.Names.{get_or-set_same, goes, has, has_run, inside_goes, is_cpu, length-set, pos, refl, slice_set, stop_at, stop_goes, subst, sym}
+use Rattle.trace_laws.proofs.Names.{true, with_cpu, with_interrupts, with_stop, ℕ, ◌-◌, ◌<◌, ◌∙◌, ◌∷◌, ◌≡◌, ◌≢◌, ◌≤◌}
 use Rattle.trace_laws.proofs.ReplayNames.{Calling, Inside, InsideIs, IsSized, Key, MemberIs, OpenIs, Past, Patch, Site, Stop, StopIs, StopState, ToldStop, Word}
 use Rattle.trace_laws.proofs.ReplayNames.{cpus, given_by, has_called, is_called, past_at, raiser_of}
 use Rattle.trace_model.specs.declared.event.Event.TheVariants as event
@@ -107,7 +107,7 @@ module _ (known : Here) (at' : Word → ℕ) (keys : (key : ℕ) → at' (Key ke
         (made : goes me e s ≡ Ok (with_stop slot s y)) (kind : y.task.kind ≢ One) (acked_told : acked_by y me ≡ EXIT) (raiser : is_cpu y.raiser me ≡ false)
         (off : p.now.irq me ≡ false) where
       pub leaves_told : Leads q (past_at pasts me) ((me, e) ∷ ((me, event.Stop stops.On) ∷ []))
-      unfolding stop_goes
+      unfolding stop_goes inside_goes
       leaves_told =
           let m = with_stop slot s y in
           let c = with_interrupts true (cpu_at s me) in
@@ -166,6 +166,6 @@ module _ (known : Here) (at' : Word → ℕ) (keys : (key : ℕ) → at' (Key ke
 
     pub raise_made : (phase : ℕ) → (p.now.stop slot).work.kind ≢ One → (p.now.stop slot).phase ≡ phase - 1 → raiser_of (p.now.stop slot).raising ≡ Some me
         → goes me (event.Stop (stops.Raise phase)) s ≡ Ok (with_stop slot s (record (stop_at s slot) { phase = phase; raiser = None }))
-    unfolding stop_goes
+    unfolding stop_goes inside_goes
     raise_made phase kind at_phase last = made_low me below (raises_phase s me whole slot (omega (arith, i.below)) ((my known).inside ∙ inside) phase
         (λ x. kind (sym (ap (λ (z : Task). z.kind) was.task) ∙ x)) (was.phase ∙ at_phase) (was.raiser ∙ last))

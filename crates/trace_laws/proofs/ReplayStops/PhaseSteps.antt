@@ -22,7 +22,7 @@ use Rattle.trace_laws.proofs.ReplayStops.TurnSteps.{Made, irq_here, keeps_here, 
 use Rattle.trace_laws.proofs.{ReplayCalls.StepEvents.by, ReplayPatches.AckSteps.acks_made, ReplayPatches.PatchEvents.AreEntries, ReplayStops.AckSteps.ack_by}
 use Rattle.trace_laws.proofs.{ReplayStops.AckSteps.old_is, ReplayStops.Here.Here, ReplayStops.Here.my, ReplayStops.Here.parts}
 use Rattle.trace_laws.proofs.{ReplayStops.StepEvents.ReachesStops, ReplayStops.StepKinds.refilled_step}
-use Rattle.smp_words.specs.declared.phase.TheConstants.{RUN, EXIT, OVER}
+use Rattle.smp_words.specs.declared.phase.TheConstants.{PREPARE, RUN, EXIT, OVER}
 
 module _ (known : Here) where
   open known use {p, shown, me, below, pasts, s, f}
@@ -195,7 +195,7 @@ module _ (known : Here) where
     raise_by : (exit r : Bool) → ran ≡ r → (x.acked == EXIT) ≡ exit → ReachesStops (Q exit) At' (slice_set pasts me Old) s
         (by me (with_on (stops.Raise (x.acked + 1)) (stop_ends (record C { interrupts = cond exit true C.interrupts }) (cond exit note.Left
         (cond r note.Ran (note.Moved x.acked)))).note))
-    raise_by true r e four = two_raises (eqb-true x.acked 4 four)
+    raise_by true r e four = two_raises (eqb-true x.acked EXIT four)
     raise_by false true e four = one_raise
     raise_by false false e four = one_raise
 
@@ -213,16 +213,16 @@ module _ (known : Here) where
       let moved : Present = record (p.now) { stop = put p.now.stop x.slot (raised (p.now.stop x.slot) n) } in
       let q = λ (over : Bool). record p { now = cond over (leaves moved me x.slot (p.now.stop x.slot).work) moved } in
       let high = small x ran w k.2 in
-      let some : 1 < n = above x.acked (λ z. (not_calm x ran w k.2) ((phase_is x ran w k.2) ∙ z)) in
+      let some : PREPARE < n = above x.acked (λ z. (not_calm x ran w k.2) ((phase_is x ran w k.2) ∙ z)) in
       let one = raise_by x ran w k.2 (x.acked == EXIT) ran refl refl in
       let two = subst (λ (b : Bool). ReachesStops (q b) at' (slice_set pasts me Old) s (by me (with_on (stops.Raise n) said))) (over_is x.acked) one in
       let three = subst (λ (m : ℕ). ReachesStops (q (n == OVER)) at' (slice_set pasts me Old) s (by me (with_on (stops.Raise m) said))) (sym (omega arith)) two
       in
       let four = subst (λ (z : StepEvents). ReachesStops (q (n == OVER)) at' (slice_set pasts me Old) s (by me z))
-      (sym (then_if (nat_lt 1 n) (with_on (stops.Raise (phase_of n)) said) told.Nothing (lt-ltb 1 n some))) three in
-      subst (λ (z : StopState). ReachesStops z at' (slice_set pasts me Old) s (by me (cond (nat_lt 1 n) (with_on (stops.Raise
+      (sym (then_if (nat_lt PREPARE n) (with_on (stops.Raise (phase_of n)) said) told.Nothing (lt-ltb PREPARE n some))) three in
+      subst (λ (z : StopState). ReachesStops z at' (slice_set pasts me Old) s (by me (cond (nat_lt PREPARE n) (with_on (stops.Raise
       (phase_of n)) said) told.Nothing)))
       (sym (then_if (p.now.stop x.slot).is_open (q (n == OVER)) (stored_shut p x.slot field.State n) (open_now x ran w k.2))) four
     where
-      above : (m : ℕ) → m ≢ 0 → 1 < m + 1
+      above : (m : ℕ) → m ≢ 0 → PREPARE < m + 1
       above m ne = omega arith

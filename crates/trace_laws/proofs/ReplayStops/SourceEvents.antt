@@ -13,12 +13,12 @@ use Rattle.trace_model.specs.declared.event.Event.TheVariants as event
 use Rattle.trace_model.specs.declared.event.LabelEvent.TheVariants as labels
 use Rattle.trace_model.specs.declared.event.StopEvent.TheVariants as stops
 use Rattle.trace_model.specs.{Stop.first_phase as told_first, Stop.is_answer, Stop.is_same}
-use Rattle.trace_laws.proofs.ReplayStops.ChangedStates.{IsAlike, cpu_alike, follows_step, patch_alike, stop_else, stops_set}
+use Rattle.trace_laws.proofs.ReplayStops.ChangedStates.{IsAlike, cpu_alike, follows_step, patch_alike, still_no_more, stop_else, stops_set}
 use Rattle.trace_laws.proofs.{ReplayPatches.OnePatcher.inside_by, ReplayPatches.OnePatcher.open_inside, ReplayStops.ComparedAnswers.as_i32-zero}
 use Rattle.trace_laws.proofs.{ReplayStops.ComparedAnswers.differs, ReplayStops.ComparedAnswers.same_int, ReplayStops.Here.Here, ReplayStops.Here.my}
 use Rattle.trace_laws.proofs.{ReplayStops.Here.parts, ReplayStops.LastToAcknowledge.first_none, ReplayStops.LastToAcknowledge.first_some}
 use Rattle.trace_laws.proofs.{ReplayStops.StepEvents.ReachesStops, ReplayStops.StepKinds.Goes, ReplayStops.StopEvents.collects_result}
-use Rattle.trace_laws.proofs.{ReplayStops.StopEvents.made_low, ReplayStops.StopEvents.opens_stop}
+use Rattle.trace_laws.proofs.{ReplayStops.StopEvents.opens_stop}
 
 -- a CPU of a stop that opens
 member_new : (task : Task) (c : ℕ) (b : Bool) → c < cpus → has task.mask c ≡ b → MemberIs (cond b Called Outside) (opening task) c
@@ -117,6 +117,7 @@ module _ (known : Here) (at' : Word → ℕ) (keys : (key : ℕ) → at' (Key ke
         stops_are = length-set s.stops slot y ∙ f.stops_are;
         gate = f.gate ∙ sym gate;
         stops = stops_set p q s slot x y f.stops_are below_slot f.stops stop_is here;
+        no_more = still_no_more s slot y below_slot f.no_more;
         mine = cpu_alike p q s (with_stop slot s y) me past (alike me) my;
         others = λ c ne. alike c;
         words = refl;
@@ -163,6 +164,7 @@ module _ (known : Here) (at' : Word → ℕ) (keys : (key : ℕ) → at' (Key ke
                     (sym x_shut ∙ o));
               })
               (λ k ne m. f.stops k m) j l);
+          no_more = f.no_more;
           mine = cpu_alike p q s s me past (alike me) my;
           others = λ c ne. alike c;
           words = refl;
@@ -194,6 +196,7 @@ module _ (known : Here) (at' : Word → ℕ) (keys : (key : ℕ) → at' (Key ke
           stops_are = f.stops_are;
           gate = f.gate ∙ sym gate;
           stops = λ j l. subst (λ (z : Stop). StopIs z (stop_at s j)) (sym (stop j)) (f.stops j l);
+          no_more = f.no_more;
           mine = cpu_alike p q s s me (past_at pasts me) (alike me) (my known);
           others = λ c ne. alike c;
           words = refl;
@@ -242,13 +245,13 @@ module _ (known : Here) (at' : Word → ℕ) (keys : (key : ℕ) → at' (Key ke
     pub opens_told : (task : Task) → task ≡ told_work w → is_work s.setting (told_work w) ≡ true → offline_in s.setting w.mask ≡ None → p.gate ≡ Some me
         → ((j : ℕ) → q.now.stop j ≡ put p.now.stop me (opened (p.now.stop me) (p.now.stop me).work) j) → ((c : ℕ) → q.now.inside c ≡ p.now.inside c)
         → ((c : ℕ) → q.now.irq c ≡ p.now.irq c) → ((c : ℕ) → q.calling c ≡ p.calling c) → q.gate ≡ p.gate → q.now.patching ≡ p.now.patching
-        → Leads q (past_at pasts me) ((me, event.Stop (stops.Open task)) ∷ [])
+        → Leads q (past_at pasts me) ((me, event.Stop (stops.Open me task)) ∷ [])
     unfolding stop_goes
     opens_told task is works online gate stop_is inside irq calling gate_is patching =
         rw is (empty_step q (past_at pasts me) me (opened (p.now.stop me) (p.now.stop me).work) (opening
         (told_work w)) below nobody stop_is inside irq calling gate_is patching told_opened
-        (my known) (event.Stop (stops.Open (told_work w)))
-        (made_low me below (opens_stop s me whole (told_work w) ((f.stops me below).is_open ∙ shut) (f.gate ∙ gate) works online)))
+        (my known) (event.Stop (stops.Open me (told_work w)))
+        (opens_stop s me whole (told_work w) (omega (arith, below)) ((f.stops me below).is_open ∙ shut) (f.gate ∙ gate) works online))
 
   -- a source collects the result
   module _ (q : StopState) (x : Stop) (open_now : (p.now.stop me).is_open ≡ true) (x_shut : x.is_open ≡ false)
@@ -270,7 +273,7 @@ module _ (known : Here) (at' : Word → ℕ) (keys : (key : ℕ) → at' (Key ke
     pub collects_told : (answer : ℤ) → unfinished (stop_at s me) ≡ None → gives (stop_at s me) answer ≡ true
         → ((j : ℕ) → q.now.stop j ≡ put p.now.stop me x j) → ((c : ℕ) → q.now.inside c ≡ p.now.inside c)
         → ((c : ℕ) → q.now.irq c ≡ p.now.irq c) → ((c : ℕ) → q.calling c ≡ p.calling c) → q.gate ≡ p.gate → q.now.patching ≡ p.now.patching
-        → Leads q (past_at pasts me) ((me, event.Stop (stops.Collect answer)) ∷ [])
+        → Leads q (past_at pasts me) ((me, event.Stop (stops.Collect me answer)) ∷ [])
     unfolding stop_goes
     collects_told answer done given stop_is inside irq calling gate_is patching =
         let k = f.stops me below in
@@ -283,7 +286,7 @@ module _ (known : Here) (at' : Word → ℕ) (keys : (key : ℕ) → at' (Key ke
           arith,
         ) in
         empty_step q (past_at pasts me) me x (record (stop_at s me) { is_open = false }) below over stop_is inside irq calling gate_is patching told
-        (my known) (event.Stop (stops.Collect answer)) (made_low me below (collects_result s me whole answer (k.is_open ∙ open_now) done given))
+        (my known) (event.Stop (stops.Collect me answer)) (collects_result s me whole answer (omega (arith, below)) (k.is_open ∙ open_now) done given)
 
     -- all have completed
     pub all_done : unfinished (stop_at s me) ≡ None

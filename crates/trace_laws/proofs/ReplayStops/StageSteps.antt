@@ -25,7 +25,7 @@ use Rattle.trace_laws.proofs.ReplayStops.StepKinds.{gate_given, gate_taken, idle
 use Rattle.trace_laws.proofs.{ReplayCalls.StepEvents.by, ReplayPatches.BegunPatches.none_before, ReplayPatches.BegunPatches.works_patch, ReplayStops.Here.Here}
 use Rattle.trace_laws.proofs.{ReplayStops.Here.parts, ReplayStops.Moves.enters_told, ReplayStops.StepEvents.ReachesStops, ReplayStops.StepEvents.word_kept}
 use Rattle.trace_laws.proofs.ReplayStops.Here.{my}
-use Rattle.smp_words.specs.declared.phase.TheConstants.{RUN}
+use Rattle.smp_words.specs.declared.phase.TheConstants.{PREPARE, RUN}
 
 pub else_if : {A : Type 0} (b : Bool) (x y : A) → b ≡ false → cond b x y ≡ y
 else_if true x y e = absurd (true≢false e)
@@ -147,7 +147,7 @@ module _ (known : Here) where
   stores_shut w g x n e phase answer = subst (λ (z : StopState). ReachesStops z (put_word at (Slot me g) n) (slice_set pasts me (after_draft past g n)) s [])
       (sym (else_if (p.now.stop me).is_open x (record p { now = drafts p.now me g n }) (drafting w g e).shut)) (stores w g e n phase answer)
 
-  first_low : (k : Kind) → nat_lt 1 (first_phase k) ≡ false
+  first_low : (k : Kind) → nat_lt PREPARE (first_phase k) ≡ false
   first_low One = refl
   first_low _ = refl
 
@@ -195,7 +195,7 @@ module _ (known : Here) where
 
   -- a key and a site are read
   on_read : p.now.irq me ≡ true → (past.phase == RUN) ≡ false
-  on_read on = ne_eqb past.phase 3 (λ three. true≢false (sym on ∙ (my known).reads three))
+  on_read on = ne_eqb past.phase RUN (λ three. true≢false (sym on ∙ (my known).reads three))
 
   key_on : (k : ℕ) (q : StopState) → p.now.irq me ≡ true → ((j : ℕ) → q.now.stop j ≡ p.now.stop j) → ((d : ℕ) → q.now.inside d ≡ p.now.inside d)
       → ((d : ℕ) → q.now.irq d ≡ p.now.irq d) → ((d : ℕ) → q.calling d ≡ p.calling d) → q.gate ≡ p.gate

@@ -4,8 +4,8 @@ use Rattle.trace_laws.proofs.Names.{goes, has, has_run, inl, inr, is_called, len
 use Rattle.trace_laws.proofs.Names.{with_stop, ℕ, ◌<◌, ◌∙◌, ◌∷◌, ◌≡◌, ◌≢◌, ◌⊎◌}
 use Rattle.trace_laws.proofs.ReplayNames.{Called, CpuIs, FollowsStops, Key, MemberIs, Past, PatchIs, RunsTo, Site, Standing, Stop, StopIs, StopState, ToldStop}
 use Rattle.trace_laws.proofs.ReplayNames.{Word, calls_in, cpus, put, put_all, put_if, put_word, same_word}
-use Rattle.trace_laws.proofs.ReplayStops.ChangedStates.{IsAlike, IsAlone, LeavesCalls, cpu_alike, follows_step, patch_alike, patch_else, stop_else, stop_here}
-use Rattle.trace_laws.proofs.ReplayStops.ChangedStates.{stops_set}
+use Rattle.trace_laws.proofs.ReplayStops.ChangedStates.{IsAlike, IsAlone, LeavesCalls, cpu_alike, follows_step, patch_alike, patch_else, still_no_more}
+use Rattle.trace_laws.proofs.ReplayStops.ChangedStates.{stop_else, stop_here, stops_set}
 use Rattle.trace_laws.proofs.{ReplayCalls.ChangedStates.cpu_else, ReplayCalls.ChangedStates.cpu_here}
 
 -- These events lead to a state that agrees with the stops, and leave the calls as they were.
@@ -54,6 +54,7 @@ module _ (p q : StopState) (at at' : Word → ℕ) (pasts : List Past) (s : Stat
       stops_are = f.stops_are;
       gate = f.gate ∙ sym gate;
       stops = λ j l. subst (λ (x : Stop). StopIs x (stop_at s j)) (sym (stops j)) (f.stops j l);
+      no_more = f.no_more;
       mine = mine;
       others = λ cpu ne. record {
         inside = inside cpu ne;
@@ -90,6 +91,7 @@ module _ (p q : StopState) (at at' : Word → ℕ) (pasts : List Past) (s : Stat
           stops_are = f.stops_are;
           gate = refl;
           stops = f.stops;
+          no_more = f.no_more;
           mine = cpu_alike p (record p { gate = gate }) s t me past (alike t) mine;
           others = λ cpu ne. record {
             inside = refl;
@@ -130,7 +132,8 @@ module _ (p q : StopState) (at at' : Word → ℕ) (pasts : List Past) (s : Stat
     patch_still t stops words cpu ne j is i = search (patch_alike, put_all, patch_else, arith)
 
     stops_still : (j : ℕ) → j < cpus → StopIs (q.now.stop j) (stop_at s j)
-    stops_still j l = search (put_all, arith)
+    stops_still j l =
+        rw (k.stop_is j) (put_all (λ i (z : Stop). i < cpus → StopIs z (stop_at s i)) p.now.stop source x here (λ i ne. f.stops i) j l)
 
     pub same_step : CpuIs q s past me → ReachesStops q at' (slice_set pasts me past) s []
     same_step mine = record {
@@ -142,6 +145,7 @@ module _ (p q : StopState) (at at' : Word → ℕ) (pasts : List Past) (s : Stat
         stops_are = f.stops_are;
         gate = f.gate ∙ sym k.gate;
         stops = stops_still;
+        no_more = f.no_more;
         mine = mine;
         others = λ cpu ne. record {
           inside = k.inside cpu ne;
@@ -174,6 +178,7 @@ module _ (p q : StopState) (at at' : Word → ℕ) (pasts : List Past) (s : Stat
         stops_are = f.stops_are;
         gate = f.gate ∙ sym k.gate;
         stops = stops_still;
+        no_more = f.no_more;
         mine = mine;
         others = λ cpu ne. record {
           inside = k.inside cpu ne;
@@ -230,6 +235,7 @@ module _ (p q : StopState) (at at' : Word → ℕ) (pasts : List Past) (s : Stat
         stops_are = length-set s.stops source y ∙ f.stops_are;
         gate = f.gate ∙ sym k.gate;
         stops = stops_set p q s source x y f.stops_are m f.stops k.stop_is here;
+        no_more = still_no_more s source y m f.no_more;
         mine = mine;
         others = λ cpu ne. record {
           inside = k.inside cpu ne;
@@ -261,6 +267,7 @@ module _ (p q : StopState) (at at' : Word → ℕ) (pasts : List Past) (s : Stat
         stops_are = length-set s.stops source y ∙ f.stops_are;
         gate = f.gate ∙ sym k.gate;
         stops = stops_set p q s source x y f.stops_are m f.stops k.stop_is here;
+        no_more = still_no_more s source y m f.no_more;
         mine = mine;
         others = λ cpu ne. record {
           inside = k.inside cpu ne;

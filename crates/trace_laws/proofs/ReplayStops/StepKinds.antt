@@ -6,7 +6,7 @@ use Rattle.trace_laws.proofs.ReplayNames.{PhaseIs, Site, Standing, Stop, StopIs,
 use Rattle.trace_model.specs.declared.event.Event.TheVariants as event
 use Rattle.trace_model.specs.declared.event.StopEvent.TheVariants as stops
 use Rattle.trace_laws.proofs.ReplayStops.StepEvents.{OneStop, ReachesStops, gate_step, quiet_step, same_step}
-use Rattle.trace_laws.proofs.{ReplayStops.Here.Here, ReplayStops.Here.parts, ReplayStops.StopEvents.gives_gate, ReplayStops.StopEvents.made_low}
+use Rattle.trace_laws.proofs.{ReplayStops.Here.Here, ReplayStops.Here.parts, ReplayStops.StopEvents.gives_gate}
 use Rattle.trace_laws.proofs.{ReplayStops.StopEvents.takes_gate}
 use Rattle.smp_words.specs.declared.phase.TheConstants.{RUN}
 
@@ -30,13 +30,13 @@ module _ (known : Here) (at' : Word → ℕ) (keys : (key : ℕ) → at' (Key ke
   unfolding stop_goes
   gate_taken e = gate_step p (record p { gate = Some me }) at at' pasts s me (past_at pasts me) below sized cpus_are f keys sites (Some me)
       (event.Stop stops.Gate) refl
-      (made_low me below (takes_gate s me whole (f.gate ∙ e))) mine
+      (takes_gate s me whole (f.gate ∙ e)) mine
 
   pub gate_given : p.gate ≡ Some me → Leads (record p { gate = None }) (past_at pasts me) ((me, event.Stop stops.Ungate) ∷ [])
   unfolding stop_goes
   gate_given e = gate_step p (record p { gate = None }) at at' pasts s me (past_at pasts me) below sized cpus_are f keys sites None
       (event.Stop stops.Ungate) refl
-      (made_low me below (gives_gate s me whole (f.gate ∙ e))) mine
+      (gives_gate s me whole (f.gate ∙ e)) mine
 
   -- What a step of this CPU makes of the stops: of one stop, and of where the CPU is.
   pub record Goes (q : StopState) (slot : ℕ) (x : Stop) (inside : Option ℕ) (irq : Bool) (calling : Calling) : Type 0 where

@@ -54,7 +54,7 @@ completed_round stop me answer irq ne high not_last on may =
     (search (le-ltb, arith))
     ∙ fails (not (has_run stop me) && not (int_eq answer (answer_wanted stop me))) wrong made may
 
--- an event of stops, keys or sites is made by a CPU below 32
+-- an event in a stop, or of keys or sites, is made by a CPU below 32
 pub made_low : {made : Result StateValue Reason} {t : StateValue} (me : ℕ) → me < cpus → made ≡ Ok t → if_low me made ≡ Ok t
 made_low me below e = rw (lt-ltb me 32 (omega (arith, below))) e
 
@@ -67,23 +67,24 @@ module _ (s : StateValue) (me : ℕ) (whole : s.setting.without ≡ nothing_left
   unfolding ungate_by
   gives_gate e = rw (e, eq-eqb me me refl) refl
 
-  pub opens_stop : (task : Task) → (stop_at s me).is_open ≡ false → s.gate ≡ Some me → is_work s.setting task ≡ true → offline_in s.setting task.mask ≡ None
-      → open_by me task s ≡ Ok (with_stop me s (opening task))
+  pub opens_stop : (task : Task) → me < 64 → (stop_at s me).is_open ≡ false → s.gate ≡ Some me → is_work s.setting task ≡ true
+      → offline_in s.setting task.mask ≡ None → open_by me me task s ≡ Ok (with_stop me s (opening task))
   unfolding open_by
-  opens_stop task shut gate work online = rw (shut, opened_made s.setting task work online, ap (λ (w : Without). w.gate) whole, gate, eq-eqb me me refl) refl
+  opens_stop task l shut gate work online =
+      rw (lt-ltb me 64 l, shut, opened_made s.setting task work online, ap (λ (w : Without). w.gate) whole, gate, eq-eqb me me refl) refl
 
-  pub enters_stop : (source : ℕ) → source < 32 → (cpu_at s me).inside ≡ None → (stop_at s source).is_open ≡ true → is_called (stop_at s source) me ≡ true
+  pub enters_stop : (source : ℕ) → source < 64 → (cpu_at s me).inside ≡ None → (stop_at s source).is_open ≡ true → is_called (stop_at s source) me ≡ true
       → enter_by me source s ≡ Ok (with_inside me (Some source) (with_stop source s (record (stop_at s source) {
         entered = slice_set
             (stop_at s source).entered me true;
       })))
   unfolding enter_by entered
-  enters_stop source l none is_open called = rw (none, lt-ltb source 32 l, is_open, called) refl
+  enters_stop source l none is_open called = rw (none, lt-ltb source 64 l, is_open, called) refl
 
   -- the CPU is in a rendezvous
-  module _ (source : ℕ) (below : source < 32) (inside : (cpu_at s me).inside ≡ Some source) where
+  module _ (source : ℕ) (below : source < 64) (inside : (cpu_at s me).inside ≡ Some source) where
     is_in : stop_of me s ≡ Ok source
-    is_in = rw (inside, lt-ltb source 32 below) refl
+    is_in = rw (inside, lt-ltb source 64 below) refl
 
     rounds : (kind : Kind) → (stop_at s source).task.kind ≡ kind → kind ≢ One → in_round me s ≡ Ok source
     rounds kind e ne = search (lt-ltb, arith)
@@ -92,13 +93,14 @@ module _ (s : StateValue) (me : ℕ) (whole : s.setting.without ≡ nothing_left
         → (stop_at s source).phase ≡ DISABLE_IRQ
         → handles_nothing (cpu_at s me) ≡ Ok tt → off_by me s ≡ Ok (with_irq me false s)
     unfolding off_by
-    turns_off kind on low at quiet = rw (rounds (stop_at s source).task.kind refl kind, on, lt-leb 2 (acked_by (stop_at s source) me) low, at, quiet) refl
+    turns_off kind on low at quiet =
+        rw (rounds (stop_at s source).task.kind refl kind, on, lt-leb DISABLE_IRQ (acked_by (stop_at s source) me) low, at, quiet) refl
 
     pub turns_on : (stop_at s source).task.kind ≢ One → (cpu_at s me).irq ≡ false → EXIT ≤ acked_by (stop_at s source) me
         → is_cpu (stop_at s source).raiser me ≡ false
         → on_by me s ≡ Ok (with_irq me true s)
     unfolding on_by
-    turns_on kind off high not_last = rw (rounds (stop_at s source).task.kind refl kind, off, le-ltb (acked_by (stop_at s source) me) 4 high, not_last) refl
+    turns_on kind off high not_last = rw (rounds (stop_at s source).task.kind refl kind, off, le-ltb (acked_by (stop_at s source) me) EXIT high, not_last) refl
 
     pub raises_phase : (phase : ℕ) → (stop_at s source).task.kind ≢ One → (stop_at s source).phase ≡ phase - 1 → (stop_at s source).raiser ≡ Some me
         → raise_by me phase s ≡ Ok (with_stop source s (record (stop_at s source) { phase = phase; raiser = None }))
@@ -120,7 +122,7 @@ module _ (s : StateValue) (me : ℕ) (whole : s.setting.without ≡ nothing_left
               (stop_at s source).ran me true;
         }))
     unfolding run_by
-    runs_one func arg kind not_yet f a = rw (inside, lt-ltb source 32 below, kind, ran_one (stop_at s source) me func arg kind not_yet f a) refl
+    runs_one func arg kind not_yet f a = rw (inside, lt-ltb source 64 below, kind, ran_one (stop_at s source) me func arg kind not_yet f a) refl
 
     pub runs_multi : (func arg : ℕ) → (stop_at s source).task.kind ≡ Multi → has (stop_at s source).task.active me ≡ true → acked_by (stop_at s source) me < RUN
         → (stop_at s source).phase ≡ RUN → has_run (stop_at s source) me ≡ false → (stop_at s source).task.func ≡ func → (stop_at s source).task.arg ≡ arg
@@ -147,13 +149,13 @@ module _ (s : StateValue) (me : ℕ) (whole : s.setting.without ≡ nothing_left
 
     pub acks_disabled : (stop_at s source).task.kind ≢ One → acked_by (stop_at s source) me < DISABLE_IRQ → (stop_at s source).phase ≡ DISABLE_IRQ
         → (cpu_at s me).irq ≡ false
-        → ack_by me 2 s ≡ Ok (with_stop source s (acknowledged me 2 true (stop_at s source)))
+        → ack_by me DISABLE_IRQ s ≡ Ok (with_stop source s (acknowledged me DISABLE_IRQ true (stop_at s source)))
     unfolding ack_by
     acks_disabled kind low at off =
         rw (
           rounds (stop_at s source).task.kind refl kind,
-          lt-leb 2 (acked_by (stop_at s source) me) low,
-          eq-eqb (stop_at s source).phase 2 at,
+          lt-leb DISABLE_IRQ (acked_by (stop_at s source) me) low,
+          eq-eqb (stop_at s source).phase DISABLE_IRQ at,
           ap (λ (w : Without). w.switches) whole,
           ap (λ (w : Without). w.raises) whole,
           off,
@@ -161,15 +163,15 @@ module _ (s : StateValue) (me : ℕ) (whole : s.setting.without ≡ nothing_left
 
     pub acks_run : (stop_at s source).task.kind ≡ Multi → acked_by (stop_at s source) me < RUN → (stop_at s source).phase ≡ RUN
         → has_run (stop_at s source) me ≡ true
-        → has (stop_at s source).task.active me ≡ true → ack_by me 3 s ≡ Ok (with_stop source s (acknowledged me 3 true (stop_at s source)))
+        → has (stop_at s source).task.active me ≡ true → ack_by me RUN s ≡ Ok (with_stop source s (acknowledged me RUN true (stop_at s source)))
     unfolding ack_by
     acks_run kind low at ran active =
         rw (
           inside,
-          lt-ltb source 32 below,
+          lt-ltb source 64 below,
           kind,
-          lt-leb 3 (acked_by (stop_at s source) me) low,
-          eq-eqb (stop_at s source).phase 3 at,
+          lt-leb RUN (acked_by (stop_at s source) me) low,
+          eq-eqb (stop_at s source).phase RUN at,
           active,
           kind,
           ran,
@@ -184,7 +186,7 @@ module _ (s : StateValue) (me : ℕ) (whole : s.setting.without ≡ nothing_left
     pub completes_one : (answer : ℤ) → (stop_at s source).task.kind ≡ One → has_run (stop_at s source) me ≡ true
         → complete_by me answer s ≡ Ok (done_with answer)
     unfolding complete_by
-    completes_one answer kind ran = rw (inside, lt-ltb source 32 below, completed_one (stop_at s source) me answer (cpu_at s me).irq kind ran) refl
+    completes_one answer kind ran = rw (inside, lt-ltb source 64 below, completed_one (stop_at s source) me answer (cpu_at s me).irq kind ran) refl
 
     -- after its function, or with the answer of a CPU that has run none
     pub completes_round : (answer : ℤ) → (stop_at s source).task.kind ≢ One → EXIT ≤ acked_by (stop_at s source) me
@@ -194,7 +196,7 @@ module _ (s : StateValue) (me : ℕ) (whole : s.setting.without ≡ nothing_left
     completes_round answer ne high not_last on may = search (lt-ltb, completed_round, arith)
 
   -- a source collects
-  pub collects_result : (answer : ℤ) → (stop_at s me).is_open ≡ true → unfinished (stop_at s me) ≡ None → gives (stop_at s me) answer ≡ true
+  pub collects_result : (answer : ℤ) → me < 64 → (stop_at s me).is_open ≡ true → unfinished (stop_at s me) ≡ None → gives (stop_at s me) answer ≡ true
       → collect_by me answer s ≡ Ok (with_stop me s (record (stop_at s me) { is_open = false }))
   unfolding collect_by collected
-  collects_result answer is_open all given = rw (is_open, all, given) refl
+  collects_result answer l is_open all given = rw (lt-ltb me 64 l, is_open, all, given) refl

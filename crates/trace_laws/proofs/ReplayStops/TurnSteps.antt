@@ -17,7 +17,7 @@ use Rattle.trace_events.specs.declared.step_events.StepEvents.TheVariants as tol
 use Rattle.trace_laws.proofs.ReplayStops.StageSteps.{Accepted, else_if, loads, seen_so}
 use Rattle.trace_laws.proofs.{ReplayCalls.StepEvents.by, ReplayStops.FunctionRuns.runs_told, ReplayStops.Here.Here, ReplayStops.Here.my, ReplayStops.Here.parts}
 use Rattle.trace_laws.proofs.{ReplayStops.Moves.looked_step, ReplayStops.Moves.off_step, ReplayStops.StepEvents.ReachesStops}
-use Rattle.smp_words.specs.declared.phase.TheConstants.{DISABLE_IRQ, RUN, OVER}
+use Rattle.smp_words.specs.declared.phase.TheConstants.{PREPARE, DISABLE_IRQ, RUN, OVER}
 
 pub then_if : {A : Type 0} (b : Bool) (x y : A) → b ≡ true → cond b x y ≡ x
 then_if b x y e = search (false≢true, arith)
@@ -118,7 +118,7 @@ module _ (known : Here) where
         }) phase reads
 
     -- interrupts go off
-    looks_off : (new : Past) → At (Slot slot field.State) ≡ DISABLE_IRQ → a ≡ 1 → new.answer ≡ Old.answer → (At (Slot slot field.State) ≢ 0
+    looks_off : (new : Past) → At (Slot slot field.State) ≡ DISABLE_IRQ → a ≡ PREPARE → new.answer ≡ Old.answer → (At (Slot slot field.State) ≢ 0
         → new.phase ≡ At (Slot slot field.State))
         → ReachesStops (Looked true) At (slice_set pasts me new) s ((me, event.Stop stops.Off) ∷ [])
     looks_off new two one answer phase = off_step known At (λ j. refl) (λ j. refl)
@@ -163,10 +163,10 @@ module _ (known : Here) where
         (by me (cond (two && is_new (Said same x answer)) (told.One (event.Stop stops.Off)) told.Nothing))
     look_by x answer true true e two =
         let same = eqb-true (At (Slot slot field.State)) a e in
-        looks_on true Old (λ z. off_at a refl (sym same ∙ (eqb-true (At (Slot slot field.State)) 2 two))) refl (old_phase e) (my known).reads
+        looks_on true Old (λ z. off_at a refl (sym same ∙ (eqb-true (At (Slot slot field.State)) DISABLE_IRQ two))) refl (old_phase e) (my known).reads
     look_by x answer true false e two = looks_on false Old (λ z. absurd (false≢true z)) refl (old_phase e) (my known).reads
     look_by x answer false true e two =
-        let second = eqb-true (At (Slot slot field.State)) 2 two in
+        let second = eqb-true (At (Slot slot field.State)) DISABLE_IRQ two in
         looks_off New second (omega (arith, second, (next_is e))) refl phase_new
     look_by x answer false false e two =
         looks_on false New (λ z. absurd (false≢true z)) refl phase_new (λ three. off_at a refl (omega (arith, three, (next_is e), found_small)))
@@ -175,7 +175,7 @@ module _ (known : Here) where
   looks x answer e =
       let k = sits x (round.Look answer) e in
       look_by x.slot x.acked k.2.0 k.2.2 (λ one. k.0 (k.2.1.kind ∙ one)) x answer (At (Slot x.slot field.State) == x.acked) (At
-      (Slot x.slot field.State) == 2) refl refl
+      (Slot x.slot field.State) == DISABLE_IRQ) refl refl
 
   -- the function of a Multi stop is loaded, and runs
   pub loads_func : (x : Visit) (answer : ℕ) → Made (Advance x (round.LoadFunc answer))
@@ -194,11 +194,12 @@ module _ (known : Here) where
       → IsQuiet (Some x) (p.calling me)
       → Runs (calls_now p me (p.now.stop slot).work (At (Slot slot field.Arg)) answer) slot func (At (Slot slot field.Arg))
   runs_at slot w x answer func at_seat kind active is quiet_now =
-      let so = st slot 2 3 w Rests at_seat in
-      let idle = idle_here slot w x (calling_here slot 2 3 w Rests at_seat) quiet_now in
-      let phase : (p.now.stop slot).phase ≡ RUN = at_three 3 2 (p.now.stop slot).phase refl refl (keeps_here slot 2 3 w Rests at_seat).2 in
-      runs_told known At (λ j. refl) (λ j. refl) slot so.0 (opened_here slot 2 3 w Rests at_seat)
-      (calls_now p me (p.now.stop slot).work (At (Slot slot field.Arg)) answer) 2 3 func (At (Slot slot field.Arg))
+      let so = st slot DISABLE_IRQ RUN w Rests at_seat in
+      let idle = idle_here slot w x (calling_here slot DISABLE_IRQ RUN w Rests at_seat) quiet_now in
+      let phase : (p.now.stop slot).phase ≡ RUN =
+      at_three RUN DISABLE_IRQ (p.now.stop slot).phase refl refl (keeps_here slot DISABLE_IRQ RUN w Rests at_seat).2 in
+      runs_told known At (λ j. refl) (λ j. refl) slot so.0 (opened_here slot DISABLE_IRQ RUN w Rests at_seat)
+      (calls_now p me (p.now.stop slot).work (At (Slot slot field.Arg)) answer) DISABLE_IRQ RUN func (At (Slot slot field.Arg))
       (Calls (record { func = (p.now.stop slot).work.func; arg = At (Slot slot field.Arg); answer = answer })) so.1 idle refl
       (record {
         stop_is = λ j. sym (put_all (λ i (z : Stop). z ≡ p.now.stop i) p.now.stop slot (p.now.stop slot) refl (λ i ne. refl) j);
@@ -214,7 +215,7 @@ module _ (known : Here) where
         patching_is = refl;
       })
       (inr (ap (λ (z : Work). z.kind) so.3 ∙ kind, (ap (λ (z : Work). has z.active me) so.3 ∙ active, (refl, phase))))
-      (ap (λ (z : Work). z.func) so.3 ∙ sym is) (sym (words_here slot 2 3 w Rests at_seat).written.arg)
+      (ap (λ (z : Work). z.func) so.3 ∙ sym is) (sym (words_here slot DISABLE_IRQ RUN w Rests at_seat).written.arg)
     where
       at_three : (l n phase : ℕ) → l ≡ RUN → n ≡ DISABLE_IRQ → ((l ≡ n) ⊎ ((l ≡ n + 1) × (phase ≡ l))) → phase ≡ RUN
       at_three l n phase three two (inl e) = absurd (omega arith)
@@ -225,7 +226,7 @@ module _ (known : Here) where
   calls_function x answer func e w run func_is kind =
       let slot = x.slot in
       let active : has w.active me ≡ true = ap (λ (m : ℕ). has m me) (sym run.0.active) ∙ run.2 in
-      let so = st slot 2 3 w Rests run.3 in
+      let so = st slot DISABLE_IRQ RUN w Rests run.3 in
       let carries : IsQuiet C.visit (p.calling me) = subst (λ (o : Option StopStage). CarriesAt C.visit o (p.calling me)) e (shown.carries me below) in
       let visit : C.visit ≡ Some x = (subst (λ (o : Option StopStage). SitsAt U me C o (shown.seat me)) e (shown.sits me below).seat).0 in
       let quiet_now : IsQuiet (Some x) (p.calling me) = subst (λ (o : Option Visit). IsQuiet o (p.calling me)) visit carries in
@@ -255,7 +256,7 @@ module _ (known : Here) where
   loads_change : (x : Visit) (answer func : ℕ) (w : Work) → SitsAtRun me x w (shown.seat me) → w.kind ≡ Patch → Made (Advance x (round.LoadArg answer func))
   loads_change x answer func w run kind =
       let slot = x.slot in
-      let so = st slot 2 3 w Rests run.3 in
+      let so = st slot DISABLE_IRQ RUN w Rests run.3 in
       let may : may_call me (p.now.stop slot).work ((p.now.stop slot).standing me) ≡ false =
       ap (λ (z : Standing). may_call me (p.now.stop slot).work z) so.1 ∙ (ap (λ (z : Work). may_call me z (Inside DISABLE_IRQ RUN)) so.3 ∙ may_not w kind) in
       let multi : is_multi x.kind ≡ false = ap is_multi run.0.kind ∙ ap is_multi kind in

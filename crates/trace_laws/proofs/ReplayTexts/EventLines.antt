@@ -2,12 +2,11 @@
 use Rattle.trace_laws.proofs.Names.{EarlyEnd, Event, List, Ok, Result, Setting, Some, [], ap, append_assoc, arith, decimal, false, fields_of, has}
 use Rattle.trace_laws.proofs.Names.{join_with_byte, length, length-append, lines_of, list_all, lt-ltb, nat_tests, refl, subst, suc, true, used_after, ℕ, ◌++◌}
 use Rattle.trace_laws.proofs.Names.{◌+◌, ◌<◌, ◌∙◌, ◌∷◌, ◌≡◌, ◌≤◌}
-use Rattle.trace_laws.proofs.ReplayNames.{AreReadable, AreTold, IsTold, fields_join, is_field, is_field-decimal, line_before, line_text, lines_of-line}
+use Rattle.trace_laws.proofs.ReplayNames.{AreReadable, AreTold, IsTold, OwnStop, fields_join, is_field, is_field-decimal, line_before, line_text, lines_of-line}
 use Rattle.trace_laws.proofs.ReplayNames.{lines_text}
 use Rattle.smp_script.proofs.{Texts.Decimals.decimal_lacks, Texts.Decimals.number_in-decimal, Texts.Joins.whole_fields}
 use Rattle.smp_script.specs.Spelling.{lacks}
-use Rattle.trace_model.specs.declared.event.Event.TheVariants as event
-use Rattle.trace_judge.specs.{Judged.event_on, Judged.is_comment, Reading.is_low, Reading.online_of, Runs.Told, Runs.told_by}
+use Rattle.trace_judge.specs.{Judged.event_on, Judged.is_comment, Reading.is_low, Reading.online_of, Reading.own_stop, Runs.Told, Runs.told_by}
 use Rattle.trace_laws.proofs.ReplayTexts.EventWords.{TakesAll, joined_words, words_of, words_read}
 
 -- what is behind the CPU of a line
@@ -25,8 +24,8 @@ line_is cpu e rest = rw (joined_words e) (search (append_assoc, arith))
 
 -- what is known of an event that is told
 pub line_fields : (u : Setting) (cpu : ℕ) (e : Event) → TakesAll u → IsTold u (cpu, e) → list_all is_field (decimal cpu ∷ event_words e) ≡ true
-line_fields u cpu e all (small, online, fits) =
-    rw (is_field-decimal cpu (omega (arith, small)), (words_read u e all.whole all.keys all.sites fits).fields) refl
+line_fields u cpu e all (small, online, fits, own) =
+    rw (is_field-decimal cpu (omega (arith, small)), (words_read u e all.second all.whole all.keys all.sites fits).fields) refl
 
 -- its line is the first
 pub first_line : (u : Setting) (cpu : ℕ) (e : Event) (rest : List ℕ) → TakesAll u → IsTold u (cpu, e)
@@ -49,20 +48,23 @@ online_told u cpu small on =
     let read = number_in-decimal 0 4294967295 cpu (omega arith) (omega (arith, small)) (omega (arith, small)) in
     rw (read, lt-ltb cpu 32 small, on) refl
 
-low_told : (cpu : ℕ) (e : Event) → cpu < 32 → is_low cpu e ≡ true
-low_told cpu (event.Call call) small = refl
-low_told cpu _ small = lt-ltb cpu 32 small
+low_told : (cpu : ℕ) (e : Event) → cpu < 32 → is_low cpu (own_stop 0 e) ≡ true
+low_told cpu e small = search (lt-ltb, arith)
+
+-- its stop has the CPU's number
+own_told : (cpu : ℕ) (e : Event) → OwnStop cpu e → own_stop cpu (own_stop 0 e) ≡ e
+own_told cpu e own = search arith
 
 -- the line tells the event
 pub line_tells : (u : Setting) (n cpu : ℕ) (e : Event) → TakesAll u → IsTold u (cpu, e) → event_on u n (told_line cpu e) ≡ Ok (Some (cpu, e))
 unfolding event_on
-line_tells u n cpu e all (small, online, fits) =
-    let told : IsTold u (cpu, e) = (small, online, fits) in
+line_tells u n cpu e all (small, online, fits, own) =
+    let told : IsTold u (cpu, e) = (small, online, fits, own) in
     let plain : is_comment (told_line cpu e) ≡ false = no_comment (decimal cpu) (32 ∷ join_with_byte 32 (event_words e))
     (is_field-decimal cpu (omega (arith, small))) (decimal_lacks 35 cpu refl (omega (arith, small))) in
-    let reads = words_read u e all.whole all.keys all.sites fits in
+    let reads = words_read u e all.second all.whole all.keys all.sites fits in
     let whole = whole_fields (decimal cpu ∷ event_words e) (line_fields u cpu e all told) in
-    rw (plain, line_words u cpu e all told) (rw (whole, reads.read, online_told u cpu small online, low_told cpu e small) refl)
+    rw (plain, line_words u cpu e all told) (rw (whole, reads.read, online_told u cpu small online, low_told cpu e small, all.second, own_told cpu e own) refl)
 
 -- a line within the limits
 pub used_within : (n used : ℕ) (text : List ℕ) → n ≤ 1000000 → length text < 1024 → used + length text < 16777216

@@ -12,6 +12,7 @@ use Rattle.smp_stop_steps.specs.declared.stage.RoundStage.TheVariants as round
 use Rattle.smp_stop_steps.specs.Value.{IsStopTable}
 use Rattle.trace_laws.proofs.ReplayTexts.ToldNumbers.{NoteFits, PutFits, StepFits, WordFits}
 use Rattle.trace_laws.proofs.{ReplayTexts.StopNumbers.ArgsFit, ReplayTexts.StopNumbers.BeginFits}
+use Rattle.smp_words.specs.declared.phase.TheConstants.{DISABLE_IRQ, RUN}
 
 -- the number in the name of a word of the stop table
 named_fits : (w : Word) → IsStopWord w → WordFits w
@@ -45,7 +46,8 @@ module _ (v : StopsValue) (p : StopState) (shown : StopShown p v) (sized : lengt
   round_func x answer func e =
       let k = (seated (Advance x (round.LoadArg answer func)) e).1.1 in
       let same : func ≡ k.0.func = k.2 in
-      omega (arith, (work_in (setup_of v.online v.labels) p At shown.seat shown.source shown.shows refl shown.shut me x.slot k.0 2 3 Rests k.1.3).func, same)
+      let in_stop = work_in (setup_of v.online v.labels) p At shown.seat shown.source shown.shows refl shown.shut me x.slot k.0 DISABLE_IRQ RUN Rests k.1.3 in
+      omega (arith, in_stop.func, same)
 
   completion_func : (x : Visit) (answer func : ℕ) → C.stage ≡ Some (Complete x (completion.LoadArg answer func)) → func < 2 ^ 16
   completion_func x answer func e =

@@ -11,7 +11,7 @@ use Rattle.smp_stop_steps.specs.Labels.{count_set}
 use Rattle.trace_laws.proofs.ReplayPatches.PatchSteps as patching
 use Rattle.trace_laws.proofs.{ReplayStops.Here.Here, ReplayStops.Here.parts, ReplayStops.TurnSteps.keeps_here, ReplayStops.TurnSteps.sits}
 use Rattle.trace_laws.proofs.{ReplayStops.TurnSteps.st, ReplayTexts.ToldNumbers.InRange}
-use Rattle.smp_words.specs.declared.phase.TheConstants.{EXIT, OVER}
+use Rattle.smp_words.specs.declared.phase.TheConstants.{PREPARE, EXIT, OVER}
 
 -- a store of a patch is to a key of the trace, or to a site of it
 abbrev StoreIn : ℕ → ℕ → Change → Type 0
@@ -94,7 +94,7 @@ module _ (known : Here) (u : Setting) (keys : u.keys ≡ known.v.labels.keys) (s
   old_phase : (slot a l : ℕ) → p.now.inside me ≡ Some slot → (p.now.stop slot).standing me ≡ Inside a l → l ≢ 0 → Old.phase ≡ l
   old_phase slot a l inside stood some = search arith
 
-  acknowledges : (x : Visit) (answer : ℕ) (ran : Bool) → C.stage ≡ Some (Advance x (round.Acknowledge answer ran)) → (1 ≤ Old.phase) × (Old.phase ≤ EXIT)
+  acknowledges : (x : Visit) (answer : ℕ) (ran : Bool) → C.stage ≡ Some (Advance x (round.Acknowledge answer ran)) → (PREPARE ≤ Old.phase) × (Old.phase ≤ EXIT)
   acknowledges x answer ran h1 = search (at_stage, st, old_phase, arith)
 
   raises : (x : Visit) (ran : Bool) → C.stage ≡ Some (Advance x (round.Raise ran)) → x.acked + 1 ≤ OVER

@@ -81,7 +81,7 @@ record HeadIs (nr online : ℕ) (mask : List ℕ) (labels : Option Labels) (even
   used : ℕ
   room : HasRoom number used events
   head_is : head_of (lines_of (written nr mask labels (lines_text events)))
-      ≡ Ok (head_with (32, online) (labels_or_none labels) all_told (cursor number used (lines_of (lines_text events))))
+      ≡ Ok (head_with (setting_of online (labels_or_none labels) all_told) (labels_or_none labels) (cursor number used (lines_of (lines_text events))))
 
 head_none : (nr online : ℕ) (mask : List ℕ) (events : List (ℕ × Event)) → IsTraced nr online mask None events → HeadIs nr online mask None events
 unfolding head_of
@@ -147,7 +147,7 @@ written_back nr online mask labels events t =
     let h = head_read nr online mask labels events t in
     let u = setting_of online (labels_or_none labels) all_told in
     record {
-      head = head_with (32, online) (labels_or_none labels) all_told (cursor h.number h.used (lines_of (lines_text events)));
+      head = head_with (setting_of online (labels_or_none labels) all_told) (labels_or_none labels) (cursor h.number h.used (lines_of (lines_text events)));
       head_is = h.head_is;
       setting_is = refl;
       words_are = refl;

@@ -1,7 +1,7 @@
 -- The events of a replay have numbers that a trace may tell.
 use Rattle.trace_laws.proofs.Names.{AllByRecursion, Event, Labels, List, None, Option, Setting, Some, StateValue, [], ap, arith, cases_Bool, cases_eq, eq-eqb}
 use Rattle.trace_laws.proofs.Names.{has, inl, inr, length, map, ne_eqb, refl, subst, sym, true, true≢false, ℕ, ◌++◌, ◌+◌, ◌<◌, ◌∙◌, ◌∷◌, ◌≡◌}
-use Rattle.trace_laws.proofs.ReplayNames.{AreTold, ArgFits, BeginsOfCpus, CallState, Command, CoreValue, EventFits, FitsCommand, FitsCpus, IsWhole, Past}
+use Rattle.trace_laws.proofs.ReplayNames.{AreTold, ArgFits, BeginsOfCpus, CallState, Command, CoreValue, FitsCommand, FitsCpus, IsWhole, Past}
 use Rattle.trace_laws.proofs.ReplayNames.{Replay, SLOT_WORDS, Seen, SmpError, Stage, StandsAt, StopControlValue, StopStage, StopState, Turned, after}
 use Rattle.trace_laws.proofs.ReplayNames.{all_fresh, control_of, cpus, events_of, events_of_step, found_at, fresh, get_or-same, kept, new_core}
 use Rattle.trace_laws.proofs.ReplayNames.{number_in, past_at, refusal_of, replay_from, replay_on, seen_at, share_of, slot_cell, start_below, start_turn}
@@ -11,7 +11,7 @@ use Rattle.smp_words.specs.declared.command.Event.TheVariants as turned
 use Rattle.smp_words.specs.declared.field.Field.TheVariants as field
 use Rattle.trace_laws.proofs.ReplayStops.BegunStops.{begun_else, begun_fits, begun_here, begun_labels, begun_table}
 use Rattle.trace_laws.proofs.ReplayTexts.StopNumbers.{ArgsFit, BeginFits, WorkFits, stage_args, stage_begins}
-use Rattle.trace_laws.proofs.ReplayTexts.ToldNumbers.{InRange, PastFits, StepFits, after_fits, fresh_fits, told_fits}
+use Rattle.trace_laws.proofs.ReplayTexts.ToldNumbers.{InRange, IsFit, PastFits, StepFits, after_fits, fresh_fits, told_fits}
 use Rattle.trace_laws.proofs.WholeReplays.AllEvents.{StandsAll, below, by_name_stops, call_stands, here, named, reached, reached_stops, start_stands}
 use Rattle.trace_laws.proofs.WholeReplays.AllEvents.{stop_below, stop_stands, told_stops}
 use Rattle.trace_laws.proofs.{ReplayCalls.KeptPasts.past_else}
@@ -50,10 +50,10 @@ kept_pasts pasts x sized below fits all cpu = elim (cases_eq cpu x.cpu) [
 ]
 
 module _ (u : Setting) where
-  told_by_cpu : (cpu : ℕ) (events : List Event) → cpu < cpus → has u.online cpu ≡ true → AllByRecursion (EventFits u) events
+  told_by_cpu : (cpu : ℕ) (events : List Event) → cpu < cpus → has u.online cpu ≡ true → AllByRecursion (IsFit u cpu) events
       → AreTold u (map (λ e. (cpu, e)) events)
   told_by_cpu cpu [] l on all = tt
-  told_by_cpu cpu (e ∷ es) l on all = ((l, on, all.0), told_by_cpu cpu es l on all.1)
+  told_by_cpu cpu (e ∷ es) l on all = ((l, on, all.0.0, all.0.1), told_by_cpu cpu es l on all.1)
 
   told_both : (xs ys : List (ℕ × Event)) → AreTold u xs → AreTold u ys → AreTold u (xs ++ ys)
   told_both [] ys x y = y

@@ -1,17 +1,16 @@
 -- The numbers of what a step tells, where its own numbers are of its types.
-use Rattle.trace_laws.proofs.Names.{AllByRecursion, Bool, Option, Setting, Some, arith, cases_lt, cond, nat_lt, nat_tests, refl}
-use Rattle.trace_laws.proofs.Names.{unwrap_or, ℕ, ◌<◌, ◌==◌, ◌^◌, ◌≡◌, ◌≤◌}
-use Rattle.trace_laws.proofs.ReplayNames.{Act, EventFits, Field, IsAnswer, Note, Past, Seen, StepEvents, Word, after, after_call_entry, after_draft}
-use Rattle.trace_laws.proofs.ReplayNames.{after_flags, after_on, after_other, after_slot, after_slot_load, events_in, fresh, of_ack}
-use Rattle.trace_laws.proofs.ReplayNames.{of_key, of_nudge}
-use Rattle.trace_laws.proofs.ReplayNames.{phase_of, told_of, told_on, with_on}
+use Rattle.trace_laws.proofs.Names.{AllByRecursion, Bool, Event, Option, Setting, Some, arith, cases_lt, cond, nat_lt, nat_tests, refl, unwrap_or, ℕ, ◌<◌, ◌==◌}
+use Rattle.trace_laws.proofs.Names.{◌^◌, ◌≡◌, ◌≤◌}
+use Rattle.trace_laws.proofs.ReplayNames.{Act, EventFits, Field, IsAnswer, Note, OwnStop, Past, Seen, StepEvents, Word, after, after_call_entry, after_draft}
+use Rattle.trace_laws.proofs.ReplayNames.{after_flags, after_on, after_other, after_slot, after_slot_load, events_in, fresh, of_ack, of_key, of_nudge, phase_of}
+use Rattle.trace_laws.proofs.ReplayNames.{told_of, told_on, with_on}
 use Rattle.smp_words.specs.declared.field.Field.TheVariants as field
 use Rattle.smp_words.specs.declared.seen.Act.TheVariants as act
 use Rattle.smp_words.specs.declared.seen.Note.TheVariants as note
 use Rattle.smp_words.specs.declared.word.Word.TheVariants as word
 use Rattle.trace_model.specs.declared.event.StopEvent.TheVariants as stops
 use Rattle.trace_events.specs.declared.step_events.StepEvents.TheVariants as told
-use Rattle.smp_words.specs.declared.phase.TheConstants.{EXIT}
+use Rattle.smp_words.specs.declared.phase.TheConstants.{PREPARE, EXIT, OVER}
 
 -- the number in a word's name is of its type, where an event tells it
 abbrev pub WordFits : Word → Type 0
@@ -55,11 +54,11 @@ fresh_fits = search arith
 
 -- the phases, the keys and the sites of a step are those that a trace may tell
 abbrev pub AckRange : Past → Act → Type 0
-AckRange p act.Sub = (1 ≤ p.phase) × (p.phase ≤ EXIT)
+AckRange p act.Sub = (PREPARE ≤ p.phase) × (p.phase ≤ EXIT)
 AckRange p _ = Unit {0}
 
 abbrev pub StateRange : Act → Seen → Type 0
-StateRange act.Store s = unwrap_or s.put 0 ≤ 5
+StateRange act.Store s = unwrap_or s.put 0 ≤ OVER
 StateRange _ s = Unit {0}
 
 abbrev pub SlotRange : Past → Field → Seen → Type 0
@@ -77,30 +76,36 @@ InRange u p (word.Key key) s = (key < u.keys) × CountRange s.act s
 InRange u p (word.Site site) s = site < u.sites
 InRange u p _ s = Unit {0}
 
-abbrev pub Fit : Setting → StepEvents → Type 0
-Fit u t = AllByRecursion (EventFits u) (events_in t)
+-- the numbers of an event are of its types, and its stop is its CPU's
+abbrev pub IsFit : Setting → ℕ → Event → Type 0
+IsFit u cpu e = EventFits u e × OwnStop cpu e
 
-module _ (u : Setting) where
-  fit_if : (b : Bool) (t o : StepEvents) → Fit u t → Fit u o → Fit u (cond b t o)
+abbrev pub Fit : Setting → ℕ → StepEvents → Type 0
+Fit u cpu t = AllByRecursion (IsFit u cpu) (events_in t)
+
+module _ (u : Setting) (cpu : ℕ) where
+  fit_if : (b : Bool) (t o : StepEvents) → Fit u cpu t → Fit u cpu o → Fit u cpu (cond b t o)
   fit_if b t o x y = search arith
 
-  raise_fits : (b : Bool) (put : ℕ) (n : Option Note) → nat_lt 1 put ≡ b → put ≤ 5 → Fit u (cond b (with_on (stops.Raise (phase_of put)) n) told.Nothing)
+  raise_fits : (b : Bool) (put : ℕ) (n : Option Note) → nat_lt PREPARE put ≡ b → put ≤ OVER
+      → Fit u cpu (cond b (with_on (stops.Raise (phase_of put)) n) told.Nothing)
   raise_fits b put n e l = search (nat_tests, arith)
 
-  ack_fits : (p : Past) (a : Act) (n : Option Note) → AckRange p a → Fit u (of_ack p a n)
+  ack_fits : (p : Past) (a : Act) (n : Option Note) → AckRange p a → Fit u cpu (of_ack p a n)
   ack_fits p a n l = search arith
 
-  nudge_fits : (key found : ℕ) (put : Option ℕ) → key < u.keys → Fit u (of_nudge key found put)
+  nudge_fits : (key found : ℕ) (put : Option ℕ) → key < u.keys → Fit u cpu (of_nudge key found put)
   nudge_fits key found put l = search arith
 
-  key_fits : (p : Past) (key : ℕ) (a : Act) (s : Seen) → key < u.keys → CountRange a s → Fit u (of_key p key a s)
+  key_fits : (p : Past) (key : ℕ) (a : Act) (s : Seen) → key < u.keys → CountRange a s → Fit u cpu (of_key p key a s)
   key_fits p key a s h1 h2 = search (fit_if, nudge_fits, arith)
 
-  -- what a step tells fits
-  word_fits : (p : Past) (w : Word) (s : Seen) → PastFits p → WordFits w → NoteFits s.note → InRange u p w s → Fit u (told_on p w s)
-  word_fits p w s h1 h2 h3 h4 = search (fit_if, raise_fits, ack_fits, key_fits, arith)
+-- what a step tells fits
+module _ (u : Setting) where
+  word_fits : (p : Past) (w : Word) (s : Seen) → PastFits p → WordFits w → NoteFits s.note → InRange u p w s → Fit u s.cpu (told_on p w s)
+  word_fits p w s h1 h2 h3 h4 = search (fit_if u s.cpu, raise_fits u s.cpu, ack_fits u s.cpu, key_fits u s.cpu, arith)
 
-  pub told_fits : (p : Past) (s : Seen) → PastFits p → StepFits s → InRange u p s.word s → Fit u (told_of p s)
+  pub told_fits : (p : Past) (s : Seen) → PastFits p → StepFits s → InRange u p s.word s → Fit u s.cpu (told_of p s)
   told_fits p s k f r = word_fits p s.word s k f.word f.note r
 
 -- and what is kept of it

@@ -132,10 +132,11 @@ rests_slipped_at (Some x) irq r a on = rests_same a
 rests_from_queue : (r : ℕ) (a : CpuState) → Rests a (slipped_from_queue r a).1
 rests_from_queue r a = rests_slipped_at a.current a.irq r a refl
 
--- Stops, keys and sites are as they were, and each CPU rests.
+-- The gate, stops, keys and sites are as they were, and each CPU rests.
 pub record KeepsRounds (s t : StateValue) : Type 0 where
   pub setting_is : t.setting ≡ s.setting
   pub cpus_are : length t.cpus ≡ length s.cpus
+  pub gate_is : t.gate ≡ s.gate
   pub stops_are : t.stops ≡ s.stops
   pub words_are : t.words ≡ s.words
   pub rests : (cpu : ℕ) → cpu < length s.cpus → Rests (cpu_at s cpu) (cpu_at t cpu)
@@ -146,8 +147,8 @@ keeps_end s t u same k = subst (λ (x : StateValue). KeepsRounds s x) same k
 keeps_cpu : (actor : ℕ) (s : StateValue) (c : CpuState) → Rests (cpu_at s actor) c → KeepsRounds s (with_cpu actor s c)
 keeps_cpu actor s c h1 = search (length-set, cases_eq, cpu_changed, cpu_kept, rests_same, arith)
 
-keeps_same : (s t : StateValue) → t.setting ≡ s.setting → t.cpus ≡ s.cpus → t.stops ≡ s.stops → t.words ≡ s.words → KeepsRounds s t
-keeps_same s t h1 h2 h3 h4 = search (rests_same, arith)
+keeps_same : (s t : StateValue) → t.setting ≡ s.setting → t.cpus ≡ s.cpus → t.gate ≡ s.gate → t.stops ≡ s.stops → t.words ≡ s.words → KeepsRounds s t
+keeps_same s t h1 h2 h3 h4 h5 = search (rests_same, arith)
 
 then_rests : (a b c : CpuState) → Rests a b → Rests b c → Rests a c
 then_rests a b c h1 h2 = search arith
@@ -156,13 +157,14 @@ keeps_then : (s m t : StateValue) → KeepsRounds s m → KeepsRounds m t → Ke
 keeps_then s m t p q = record {
   setting_is = q.setting_is ∙ p.setting_is;
   cpus_are = q.cpus_are ∙ p.cpus_are;
+  gate_is = q.gate_is ∙ p.gate_is;
   stops_are = q.stops_are ∙ p.stops_are;
   words_are = q.words_are ∙ p.words_are;
   rests = λ cpu below. then_rests (cpu_at s cpu) (cpu_at m cpu) (cpu_at t cpu) (p.rests cpu below) (q.rests cpu (rw p.cpus_are below));
 }
 
 keeps_refl : (s : StateValue) → KeepsRounds s s
-keeps_refl s = keeps_same s s refl refl refl refl
+keeps_refl s = keeps_same s s refl refl refl refl refl
 
 either_keeps : (s : StateValue) (test : Bool) (x : Bool × StateValue) → KeepsRounds s x.1 → let z : Bool ×
     StateValue = if test then x else (false, s) in KeepsRounds s z.1
@@ -178,7 +180,7 @@ keeps_slipped id place s =
 
 keeps_freed_by : (id : ℕ) (place : Place) (s t : StateValue) (slip : Bool × StateValue) → KeepsRounds s slip.1 → freed_by id place slip ≡ Ok t → KeepsRounds s t
 keeps_freed_by id place s t (true, m) k e =
-    keeps_end s (with_place id Free m) t (cc) (keeps_then s m (with_place id Free m) k (keeps_same m (with_place id Free m) refl refl refl refl))
+    keeps_end s (with_place id Free m) t (cc) (keeps_then s m (with_place id Free m) k (keeps_same m (with_place id Free m) refl refl refl refl refl))
 keeps_freed_by id place s t (false, m) k e = absurd cc
 
 keeps_freed_from : (id : ℕ) (place : Place) (s t : StateValue) → freed_from id place s ≡ Ok t → KeepsRounds s t
@@ -194,7 +196,7 @@ keeps_joined call to s =
     let first = is_empty (cpu_at s to).queue in
     let c = noted to first (cpu_at u call.source) in
     keeps_then s m (joined call to s) (keeps_cpu to s (pushed call (cpu_at s to)) (record { inside = refl; irq = refl; quiet = λ off q. q }))
-    (keeps_then m u (joined call to s) (keeps_same m u refl refl refl refl) (keeps_cpu call.source u c
+    (keeps_then m u (joined call to s) (keeps_same m u refl refl refl refl refl) (keeps_cpu call.source u c
     (record { inside = refl; irq = refl; quiet = λ off q. q })))
 
 keeps_queue : (source id to : ℕ) (class : Class) (func info : ℕ) (s t : StateValue)
@@ -228,7 +230,7 @@ unfolding take_by
 keeps_take actor s t e =
     let x = with_cpu actor (moved actor s) (taken (cpu_at s actor)) in
     let m = both_made (may_take (not s.setting.without.interrupts) (cpu_at s actor)) (λ u. Ok x) t e in
-    keeps_end s x t (cc) (keeps_then s (moved actor s) x (keeps_same s (moved actor s) refl refl refl refl)
+    keeps_end s x t (cc) (keeps_then s (moved actor s) x (keeps_same s (moved actor s) refl refl refl refl refl)
     (keeps_cpu actor (moved actor s) (taken (cpu_at s actor)) (rests_taken (not s.setting.without.interrupts) (cpu_at s actor) m.0 m.1.0)))
 
 keeps_unlock : (actor id : ℕ) (s t : StateValue) → unlock_by actor id s ≡ Ok t → KeepsRounds s t
@@ -239,7 +241,7 @@ keeps_unlock actor id s t e =
     let made = unlocked id here elsewhere (cpu_at s actor) in
     let n = both_made (on_cpu actor s made) (λ x. Ok (with_place id Free x)) t e in
     keeps_then s n.0 t (keeps_made actor s n.0 made n.1.0 (λ c f. rests_unlocked id here elsewhere (cpu_at s actor) c f))
-    (keeps_end n.0 (with_place id Free n.0) t (cc) (keeps_same n.0 (with_place id Free n.0) refl refl refl refl))
+    (keeps_end n.0 (with_place id Free n.0) t (cc) (keeps_same n.0 (with_place id Free n.0) refl refl refl refl refl))
 
 rests_entered : (order : Bool) (actor : ℕ) (id func info : ℕ) (place : Place) (s : StateValue) (c : CpuState) →
     entered_by order actor (record { id = id; func = func; info = info }) place s ≡ Ok c → Rests (cpu_at s actor) c
@@ -249,7 +251,7 @@ rests_entered false actor id func info place s c e = rests_begun id func info (i
 
 keeps_placed : (unless : Bool) (actor id : ℕ) (s : StateValue) → KeepsRounds s (placed_unless unless actor id s)
 keeps_placed true actor id s = keeps_refl s
-keeps_placed false actor id s = keeps_same s (placed_unless false actor id s) refl refl refl refl
+keeps_placed false actor id s = keeps_same s (placed_unless false actor id s) refl refl refl refl refl
 
 keeps_begin : (actor id func info : ℕ) (s t : StateValue) → begin_by actor (record { id = id; func = func; info = info }) s ≡ Ok t → KeepsRounds s t
 unfolding begin_by
@@ -261,7 +263,7 @@ keeps_begin actor id func info s t e =
     (keeps_end n.0 (placed_unless unless actor id n.0) t (cc) (keeps_placed unless actor id n.0))
 
 keeps_freed_if : (test : Bool) (id : ℕ) (s : StateValue) → KeepsRounds s (freed_if test id s)
-keeps_freed_if true id s = keeps_same s (freed_if true id s) refl refl refl refl
+keeps_freed_if true id s = keeps_same s (freed_if true id s) refl refl refl refl refl
 keeps_freed_if false id s = keeps_refl s
 
 keeps_ended : (actor id : ℕ) (s t : StateValue) → end_by actor id s ≡ Ok t → KeepsRounds s t

@@ -1,7 +1,7 @@
 -- Each replay is accepted.
 use Rattle.trace_laws.proofs.Names.{AllByRecursion, CpuState, Err, LabelWords, Labels, List, None, Option, Runs, Setting, Some, StateValue, [], ap, arith}
-use Rattle.trace_laws.proofs.Names.{closed, false≢true, get_or-replicate, length-replicate, opening, refl, subst, sym, ℕ, ◌+◌}
-use Rattle.trace_laws.proofs.Names.{◌∙◌, ◌∷◌, ◌≡◌}
+use Rattle.trace_laws.proofs.Names.{cases_lt, closed, false, false≢true, get_or-replicate, get_or_past, inl, inr, length-replicate, opening, refl, replicate}
+use Rattle.trace_laws.proofs.Names.{slice_index_or, subst, sym, ℕ, ◌+◌, ◌∙◌, ◌∷◌, ◌≡◌}
 use Rattle.trace_laws.proofs.ReplayNames.{AreWordsOf, BeginsOfCpus, CallState, Command, CoreValue, FitsCommand, FitsCpus, FollowsStops, IsWhole}
 use Rattle.trace_laws.proofs.ReplayNames.{Past, Replay, Seen, SmpError, Stage, StopShown, StopStage, StopState, StopsValue, Turned, after_seen}
 use Rattle.trace_laws.proofs.ReplayNames.{all_fresh, control_of, cpus, events_of, events_of_step, fresh, get_or-same, kept, new_core, new_stops, no_calls}
@@ -81,15 +81,23 @@ replayed position (turned.Step cpu ∷ rest) core a p pasts s k all =
 
 -- before the first step
 
+-- no stop is open
+all_shut : (online j : ℕ) → (slice_index_or (replicate 64 (closed online)) j (closed 0)).is_open ≡ false
+all_shut online j = elim (cases_lt j 64) [
+  | inl low ↦ rw (get_or-replicate 64 j (closed online) (closed 0) low) refl
+  | inr past ↦ rw (get_or_past (replicate 64 (closed online)) j (closed 0) (rw (length-replicate 64 (closed online)) past)) refl
+]
+
 opening_stops : (u : Setting) (words : LabelWords) (nr online : ℕ) (labels : Labels) → AreWordsOf u words (new_stops nr online labels)
     → FollowsStops no_stops (stop_number (new_stops nr online labels).table) all_fresh (opening u words)
 unfolding opening
 opening_stops u words nr online labels w = record {
-  stops_are = length-replicate 32 (closed u.online);
+  stops_are = length-replicate 64 (closed u.online);
   keys_are = w.keys_are;
   sites_are = w.sites_are;
   gate = refl;
-  stops = λ j l. rw (get_or-replicate 32 j (closed u.online) (closed 0) (omega arith)) (search (length-replicate, false≢true, arith));
+  stops = λ j l. rw (get_or-replicate 64 j (closed u.online) (closed 0) (omega arith)) (search (length-replicate, false≢true, arith));
+  no_more = λ j l. all_shut u.online j;
   cpus_are = λ cpu. record {
     inside = ap (λ (c : CpuState). c.inside) (fresh_at u words cpu);
     irq = ap (λ (c : CpuState). c.irq) (fresh_at u words cpu);

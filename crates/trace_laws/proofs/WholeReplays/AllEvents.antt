@@ -1,5 +1,4 @@
 -- All events of a replay are accepted.
-use Rattle.trace_laws.proofs.Names.{eqb-false, true≢false}
 use Rattle.trace_laws.proofs.Names.{List, None, Ok, Option, Some, StateValue, [], ap, arith, cases_eq, cpu_at, false, handles_nothing, has, inl}
 use Rattle.trace_laws.proofs.Names.{inr, length, length-set, map, refl, slice_set, subst, sym, true, ℕ, ◌<◌, ◌∙◌, ◌≡◌}
 use Rattle.trace_laws.proofs.ReplayNames.{AimsOnline, BeginsOfCpus, CallState, CallsOfCpu, Command, ControlValue, CoreValue, CpuIs, Done, Drafts}
@@ -66,6 +65,7 @@ stops_moved p at pasts new s t k n f = record {
   sites_are = rw k.words f.sites_are;
   gate = k.gate ∙ f.gate;
   stops = λ j l. rw k.stops (f.stops j l);
+  no_more = λ j l. rw k.stops (f.no_more j l);
   cpus_are = λ cpu. stop_moved p s t (past_at pasts cpu) (past_at new cpu) cpu k (n cpu) (f.cpus_are cpu);
   keys = λ j. rw k.words (f.keys j);
   sites = λ j. rw k.words (f.sites j);

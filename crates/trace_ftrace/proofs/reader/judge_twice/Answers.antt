@@ -12,8 +12,8 @@ use Rattle.trace_ftrace.specs.ToldView.{telling_value}
 use Rattle.trace_ftrace.specs.declared.text.Asked.{Asked}
 use Rattle.trace_ftrace.specs.declared.thin_text.ShownLines.{ShownLines}
 use Rattle.trace_ftrace.specs.declared.wrong.Refusal.{Refusal}
-use Rattle.commands.specs.KernelFiles.{GivesLines}
-use Rattle.commands.proofs.kernel_file.judge_twice.Goals as goal
+use Rattle.trace_ftrace.specs.Readers.{GivesLines}
+use Rattle.trace_ftrace.proofs.reader.judge_twice.Goals as goal
 
 abbrev IsJudged : {A : Type 0} → Option (List ℕ) → Option (List ℕ) → Option (List ℕ) → Option (List ℕ) → Asked → Vec ℕ A × Ruling → Type 0
 IsJudged before after again left asked r = (text : List ℕ) × Consumes before after text × IsAtEnd after

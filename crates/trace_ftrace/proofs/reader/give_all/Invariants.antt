@@ -1,6 +1,6 @@
 use Rattle.std.proofs.Common.{ℕ, List}
 use Rattle.std.specs.Io.KnownBytes.{Consumes}
-use Rattle.commands.proofs.kernel_file.give_all.Given as goal
+use Rattle.trace_ftrace.proofs.reader.give_all.Given as goal
 
 abbrev pub invariant-pieces : goal.invariant-pieces
 invariant-pieces g l =

@@ -1,4 +1,4 @@
--- Files of a kernel's tracer.
+-- What a second reader gives.
 use Rattle.std.specs.Prelude.{◌≡◌, ◌⊎◌, ℕ, List, Option}
 use Rattle.std.specs.Io.KnownBytes.{Consumes, IsAtEnd}
 
