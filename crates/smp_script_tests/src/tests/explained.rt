@@ -175,12 +175,12 @@ fn what_may_stand_there(rt: HostRuntime) -> Result<(), Fail> {
 ",
         ),
         (
-            "smp 3 trace\ncpus 64 0-63\n40 gate\n",
+            "smp 3 trace\ncpus 64 0-63\n40 off\n",
             "line 3 Range: a number outside the range of its field
-  40 gate
+  40 off
   field 1, C: here is `40`
     here may be: a number from 0 to 31
-    the line: C gate
+    the line: C off
 ",
         ),
         (
