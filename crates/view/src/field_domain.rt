@@ -39,6 +39,8 @@ pub enum Domain<'a> {
     Member,
     /// A key that there is.
     Key,
+    /// A site that there is.
+    Site,
     Mask,
     MaskOrNone,
     Online,
@@ -151,6 +153,8 @@ pub fn domain_of<'a>(setting: &TextSetting, template: &str, name: &'a str) -> Do
         "ACTIVE" if template.contains("stop_machine") => Domain::MaskOrNone,
         "DST" if template.contains("call_single") => Domain::Member,
         "K" if template.contains("set_key") => Domain::Key,
+        "K" if matches!(setting.kind, TextKind::Trace) => Domain::Key,
+        "I" if matches!(setting.kind, TextKind::Trace) => Domain::Site,
         "FUNC" | "INFO" | "ARG" | "ACTIVE" => argument_in(setting.kind, name),
         "KEYS" => Domain::Number(0, 4),
         "ITEMS" => Domain::Items,
@@ -212,10 +216,10 @@ fn is_mask(limit: u32, field: &[u8]) -> bool {
     field.len() <= MOST_BYTES && read_mask(limit, field).is_ok()
 }
 
-// Whether this is the number of a key below these.
-fn is_key(keys: u32, field: &[u8]) -> bool {
+// Whether this is a number below this one.
+fn is_below(count: u32, field: &[u8]) -> bool {
     match read_u16(field) {
-        Ok(key) => u32::from(key) < keys,
+        Ok(number) => u32::from(number) < count,
         Err(_) => false,
     }
 }
@@ -227,7 +231,8 @@ pub fn is_refused(setting: &TextSetting, takes: Domain<'_>, field: &[u8]) -> boo
         Domain::Number(low, high) => number(field, low, high).is_err(),
         Domain::Signed => read_i32(field).is_err(),
         Domain::Member => read_member(setting.online, field).is_err(),
-        Domain::Key => !is_key(setting.given.keys, field),
+        Domain::Key => !is_below(setting.given.keys, field),
+        Domain::Site => !is_below(setting.given.sites, field),
         Domain::Mask => !is_mask(setting.limit, field),
         Domain::MaskOrNone => !is_word(field, b"none") && !is_mask(setting.limit, field),
         Domain::Online | Domain::Items | Domain::Told(_) => true,
@@ -244,6 +249,7 @@ fn text_of<'a>(takes: Domain<'a>) -> &'a str {
         Domain::Signed => "a number from -2147483648 to 2147483647",
         Domain::Member => "a CPU that is online",
         Domain::Key => "a key below ",
+        Domain::Site => "a site of those in ITEMS, here ",
         Domain::Mask => "-, or a list of CPUs below ",
         Domain::MaskOrNone => "none, -, or a list of CPUs below ",
         Domain::Online => "a list of CPUs below ",
@@ -267,6 +273,10 @@ pub fn write_domain<A: Allocator>(
         Domain::Key => {
             let keys = setting.given.keys;
             write!(out, "KEYS, here {keys}")
+        }
+        Domain::Site => {
+            let sites = setting.given.sites;
+            write!(out, "{sites}")
         }
         Domain::Mask | Domain::MaskOrNone => write!(out, "{limit}, as 0-2,5"),
         Domain::Online => write!(out, "{limit} and below NR, as 0-2,5, and not empty"),

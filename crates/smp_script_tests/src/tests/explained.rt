@@ -16,7 +16,25 @@ fn explained(alloc: Global, text: &[u8]) -> Result<(Vec<u8, Global>, Outcome), S
 
 #[test]
 fn what_may_stand_there(rt: HostRuntime) -> Result<(), Fail> {
-    let cases: [(&str, &str); 21] = [
+    let cases: [(&str, &str); 23] = [
+        (
+            "smp 2 trace\ncpus 2 0-1\nlabels 1 0:0\n0 set 1 1\n",
+            "line 4 Range: a number outside the range of its field
+  0 set 1 1
+  field 3, K: here is `1`
+    here may be: a key below KEYS, here 1
+    the line: C set K N
+",
+        ),
+        (
+            "smp 2 trace\ncpus 2 0-1\nlabels 1 0:0\n0 site 1 NOP\n",
+            "line 4 Range: a number outside the range of its field
+  0 site 1 NOP
+  field 3, I: here is `1`
+    here may be: a site of those in ITEMS, here 1
+    the line: C site I NOP
+",
+        ),
         (
             "smp 3 trace\ncpus 2 0-1\nwithout interrupts order unlocks\n0 queue 1 1 x 7 42\n",
             "line 4 Word: a wrong word, or too few or too many fields
