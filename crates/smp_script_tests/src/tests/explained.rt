@@ -263,6 +263,7 @@ fn the_changed_field_is_named(rt: HostRuntime) -> Result<(), Fail> {
     let run = "smp 1 run\ncpus 2 0-1\n";
     let exploration = "smp 1 explore\ncpus 2 0-1\n";
     let trace = "smp 2 trace\ncpus 2 0-1\n";
+    let labelled = "smp 2 trace\ncpus 2 0-1\nlabels 1 0:0\n";
     let third = "smp 3 trace\ncpus 2 0-1\nwithout interrupts order unlocks\n";
     let cases: [(&str, &str); 45] = [
         ("", "smp 1 replay"),
@@ -305,8 +306,8 @@ fn the_changed_field_is_named(rt: HostRuntime) -> Result<(), Fail> {
         (trace, "0 open multi 0-1 0 7 9"),
         (trace, "0 ack 2"),
         (trace, "0 raise 2"),
-        (trace, "0 set 0 1"),
-        (trace, "0 turn 0 JMP"),
+        (labelled, "0 set 0 1"),
+        (labelled, "0 turn 0 JMP"),
         (third, "0 open 5 multi 0-1 0 7 9"),
         (third, "1 collect 5 -3"),
         (third, "0 queue 1 1 unknown 7 42"),
