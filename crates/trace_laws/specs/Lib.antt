@@ -11,6 +11,7 @@ pub mod Traces
 pub mod Drained
 pub mod Targets
 pub mod AcceptedTexts
+pub mod ReadVersions
 -- a state of the model that agrees with a machine
 pub mod AgreeingCalls
 pub mod AgreeingStops
