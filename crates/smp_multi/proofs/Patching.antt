@@ -367,7 +367,7 @@ module _ (k : KnownStops) (s : ℕ) (w : Work) (count : ℕ) (is : k.seat ≡ In
   abbrev duty_at : Bool → Duty
   duty_at last = cond last Fills Rests
 
-  passed_same : (n : ℕ) (b : Bool) → cond b (raised_by 4 (patched_at n (duty_at b)).seat (patched_at n (duty_at b))) (patched_at n (duty_at b))
+  passed_same : (n : ℕ) (b : Bool) → cond b (raised_by EXIT (patched_at n (duty_at b)).seat (patched_at n (duty_at b))) (patched_at n (duty_at b))
       ≡ patched_at n Rests
   passed_same n true = refl
   passed_same n false = refl

@@ -155,7 +155,7 @@ unfoldable pub raise_by : ℕ → ℕ → StateValue → Result StateValue Reaso
 raise_by cpu phase s =
     in_round cpu s >>= λ number. on_stop number s (raised cpu phase (stop_at s number)) >>= λ t. Ok (switched_on cpu phase t)
 
--- a CPU may turn its interrupts off: at phase 2, where it handles nothing
+-- a CPU may turn its interrupts off: at DISABLE_IRQ, where it handles nothing
 abbrev pub may_off : ℕ → ℕ → StateValue → Result (Unit {0}) Reason
 may_off cpu number s =
     if (cpu_at s cpu).irq then (at_phase (stop_at s number) cpu DISABLE_IRQ >>= λ u. handles_nothing (cpu_at s cpu)) else Err reason.InterruptsOff
