@@ -6,6 +6,8 @@ use Rattle.trace_model.specs.declared.event.CallEvent.{CallEvent}
 use Rattle.trace_model.specs.declared.event.CallEvent.TheVariants as calls
 use Rattle.trace_model.specs.declared.event.Event.{Event}
 use Rattle.trace_model.specs.declared.event.Event.TheVariants as event
+use Rattle.trace_model.specs.declared.event.OtherNode.{OtherNode}
+use Rattle.trace_model.specs.declared.event.OtherNode.TheVariants as node
 use Rattle.trace_model.specs.declared.event.LabelEvent.{LabelEvent}
 use Rattle.trace_model.specs.declared.event.LabelEvent.TheVariants as labels
 use Rattle.trace_model.specs.declared.event.StopEvent.{StopEvent}
@@ -22,9 +24,15 @@ abbrev pub queue_text : ℕ → ℕ → Class → ℕ → ℕ → List ℕ
 queue_text id to class func info =
     codes "queue " ++ decimal id ++ codes " " ++ decimal to ++ codes " " ++ class_text class ++ codes " " ++ decimal func ++ codes " " ++ decimal info
 
+-- the name of what joins a queue and is no call
+abbrev pub node_text : OtherNode → List ℕ
+node_text node.Wake = codes "wake"
+node_text node.IrqWork = codes "irqwork"
+
 -- an event of calls
 abbrev pub call_text : CallEvent → List ℕ
 call_text (calls.Queue id to class func info) = queue_text id to class func info
+call_text (calls.QueueOther to node) = codes "queue " ++ decimal to ++ codes " " ++ node_text node
 call_text (calls.Free id) = codes "free " ++ decimal id
 call_text (calls.Send to) = codes "send " ++ decimal to
 call_text calls.Accept = codes "accept"

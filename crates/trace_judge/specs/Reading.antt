@@ -15,6 +15,8 @@ use Rattle.smp_script.specs.Numbers.{number_in, signed_of}
 use Rattle.smp_script.specs.Requests.{switch_of}
 use Rattle.trace_model.specs.Online.{is_online}
 use Rattle.trace_model.specs.declared.event.Event.{Event}
+use Rattle.trace_model.specs.declared.event.OtherNode.{OtherNode}
+use Rattle.trace_model.specs.declared.event.OtherNode.TheVariants.{Wake, IrqWork}
 use Rattle.trace_model.specs.declared.event.Event.TheVariants.{Call, Stop, Label}
 use Rattle.trace_model.specs.declared.event.CallEvent.TheVariants as calls
 use Rattle.trace_model.specs.declared.event.StopEvent.TheVariants as stops
@@ -142,10 +144,26 @@ may_be_unknown u = u.is_third && u.without.order && u.without.unlocks
 abbrev pub class_in : Setting → List ℕ → Result Class Cause
 class_in u text = if bytes_eq text (codes "unknown") && may_be_unknown u then Ok Async else class_of text
 
--- `queue`, and then R D CLASS FUNC INFO
+-- `wake` or `irqwork`: what joins a queue and is no call
+abbrev pub node_of : List ℕ → Result OtherNode Cause
+node_of text = if bytes_eq text (codes "wake") then Ok Wake else (if bytes_eq text (codes "irqwork") then Ok IrqWork else Err Word)
+
+abbrev pub other_of : List ℕ → OtherNode → Result Event Cause
+other_of to node = word32 to >>= λ d. Ok (Call (calls.QueueOther d node))
+
+-- in version 3, D and what joins its queue that is no call
+abbrev pub other_line : Bool → List ℕ → List ℕ → Result (Result Event Cause) Cause
+other_line is_third to node = if is_third then (node_of node >>= λ n. Ok (other_of to n)) else Err Word
+
+-- R D CLASS FUNC INFO
+abbrev pub call_line : Setting → List (List ℕ) → Result (Result Event Cause) Cause
+call_line u (id ∷ to ∷ class ∷ func ∷ info ∷ []) = class_in u class >>= λ c. Ok (queue_of id to c func info)
+call_line u _ = Err Word
+
+-- `queue`, and then these, or D and what is no call
 abbrev pub queue_line : Setting → List (List ℕ) → Result (Result Event Cause) Cause
-queue_line u (id ∷ to ∷ class ∷ func ∷ info ∷ []) = class_in u class >>= λ c. Ok (queue_of id to c func info)
-queue_line u _ = Err Word
+queue_line u (to ∷ node ∷ []) = other_line u.is_third to node
+queue_line u arguments = call_line u arguments
 
 -- KIND MASK ACTIVE FUNC ARG
 abbrev pub task_line : List (List ℕ) → Result (Result Task Cause) Cause

@@ -14,12 +14,13 @@ use Rattle.trace_model.specs.declared.event.Event.TheVariants as event
 use Rattle.trace_model.specs.declared.reason.Reason.{Reason}
 use Rattle.trace_model.specs.declared.reason.Reason.TheVariants as reason
 use Rattle.trace_model.specs.declared.stop.Stop.{Stop}
-use Rattle.trace_model.specs.Ending.{busy_of, heads_of, locked_of, owed_by, queue_length, queued_by, ran_of, waiting}
+use Rattle.trace_model.specs.Ending.{busy_of, has_nodes, heads_of, locked_of, owed_by, queue_length, queued_by, ran_of, waiting}
 use Rattle.trace_model.specs.State.{StateValue, cpu_at, stop_at}
 
 -- the name of an event
 abbrev pub call_name : CallEvent → List ℕ
 call_name (calls.Queue id to class func info) = codes "queue"
+call_name (calls.QueueOther to node) = codes "queue"
 call_name (calls.Free id) = codes "free"
 call_name (calls.Send to) = codes "send"
 call_name calls.Accept = codes "accept"
@@ -131,12 +132,13 @@ why_text false true pending owed = codes " accepted"
 why_text false false true owed = codes " pending"
 why_text false false false owed = owed_text owed
 
--- a queue that is not empty
+-- a queue that is not empty, with its number of calls
 abbrev pub queue_text : StateValue → ℕ → List ℕ
 queue_text s cpu =
-    if queue_length s cpu == 0 then codes ""
-    else codes "queue " ++ decimal cpu ++ codes " " ++ decimal (queue_length s cpu) ++
+    if has_nodes (cpu_at s cpu) then
+    codes "queue " ++ decimal cpu ++ codes " " ++ decimal (queue_length s cpu) ++
     why_text s.setting.without.interrupts (cpu_at s cpu).accepted (cpu_at s cpu).pending (owed_by s cpu) ++ 10 ∷ []
+    else codes ""
 
 -- a stop that is open: its phase, and those for whom it waits
 abbrev pub open_text : ℕ → Stop → List ℕ

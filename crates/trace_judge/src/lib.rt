@@ -4,7 +4,7 @@
 //! - `trace`: A trace from a reader, and its verdict to a writer.
 //! - `verdict`: The verdict on a text; `text`, `phrase`: what is printed of it.
 //! - `head`, `cpus_line`, `cursor`: The head of a trace, its line 2, and where it is read to.
-//! - `body`, `reading`: The lines behind it, and the event that each tells.
+//! - `body`, `reading`: The lines behind it, and the event that each tells: of calls, stops, or keys and sites.
 //! - `laws`: What the verdict means.
 //! - `early_end`: Why a trace was not judged to its end.
 #![tactic(auto)]

@@ -15,7 +15,7 @@ fn call_name(event: CallEvent) -> &'static str
     ensures { result.now ≡ call_name event }
 {
     match event {
-        CallEvent::Queue(..) => "queue",
+        CallEvent::Queue(..) | CallEvent::QueueOther(..) => "queue",
         CallEvent::Free(_) => "free",
         CallEvent::Send(_) => "send",
         CallEvent::Accept => "accept",
@@ -175,7 +175,7 @@ fn write_why<A: Allocator>(
     write_owed(out, owed)
 }
 
-/// A queue that is not empty.
+/// A queue that is not empty, with its number of calls.
 fn write_queue<A: Allocator, B: Allocator + Copy>(
     out: &mut String<A>,
     state: &State<B>,
@@ -184,10 +184,10 @@ fn write_queue<A: Allocator, B: Allocator + Copy>(
     requires { cpu < 512 }
     ensures { OnOk result (string_bytes out.new ≡ string_bytes out.old ++ queue_text state.now cpu) }
 {
-    let length = state.queue_length(cpu);
-    if length == 0 {
+    if !state.has_nodes(cpu) {
         return write!(out, "");
     }
+    let length = state.queue_length(cpu);
     write!(out, "queue {cpu} {length}")?;
     let silent = state.setting.without.interrupts;
     let owed = state.owed_by(cpu);

@@ -40,12 +40,12 @@ pub use Rattle.smp_words.specs.declared.work.Kind.TheVariants.{Multi, One, Patch
 pub use Rattle.smp_script.specs.Labels.{whole_labels}
 pub use Rattle.smp_script.specs.Lines.{Line, fields_of, lines_of}
 pub use Rattle.smp_script.specs.Numbers.{is_decimal}
-unfoldable pub use Rattle.trace_model.specs.Calls.{begin_by, end_by, queue_by, send_by, take_by, unlock_by}
+unfoldable pub use Rattle.trace_model.specs.Calls.{begin_by, end_by, other_by, queue_by, send_by, take_by, unlock_by}
 pub use Rattle.trace_model.specs.Calls.{accept_by, entered_by, freed_if, idle_by, joined, moved, on_cpu, place_of_run, placed, placed_unless}
 pub use Rattle.trace_model.specs.Cpu.{CpuState, accepted, after_end, at_call, begun, begun_any, begun_at, begun_front, begun_loose, begun_with, call_at}
 pub use Rattle.trace_model.specs.Cpu.{counted, ended, ended_at, ended_with, fresh_cpu, front_of, handles_nothing, in_stop, interrupted, is_async, is_class}
-pub use Rattle.trace_model.specs.Cpu.{is_empty, is_locked, is_of, is_sync, left_batch, loose_with, may_take, not_over, noted, of_class, order, over_with}
-pub use Rattle.trace_model.specs.Cpu.{place_in, pushed, quiet_with, rest_of, runs_locked, sent, slipped_any, slipped_at, slipped_from_batch, slipped_from_queue}
+pub use Rattle.trace_model.specs.Cpu.{is_bare, is_locked, is_of, is_sync, left_batch, loose_with, may_take, not_over, noted, of_class, order, over_with, owing}
+pub use Rattle.trace_model.specs.Cpu.{place_in, pushed, pushed_other, quiet_with, rest_of, runs_locked, sent, slipped_any, slipped_at, slipped_from_batch, slipped_from_queue}
 pub use Rattle.trace_model.specs.Cpu.{slipped_front, taken, unlocked, unlocked_front, unlocked_running, unlocked_with, with_interrupts}
 pub use Rattle.trace_model.specs.Labels.{count_at, entry_of, is_site, key_number, may_nudge, nudged, nudged_count, patch_for, patch_or, patch_to, popped}
 pub use Rattle.trace_model.specs.Labels.{site_at, site_from, site_front, site_store, stored, to_be}
@@ -73,6 +73,7 @@ pub use Rattle.trace_model.specs.declared.call.Progress.TheVariants.{Ended, Unlo
 pub use Rattle.trace_model.specs.declared.event.CallEvent.{CallEvent}
 pub use Rattle.trace_model.specs.declared.event.Event.{Event}
 pub use Rattle.trace_model.specs.declared.event.LabelEvent.{LabelEvent}
+pub use Rattle.trace_model.specs.declared.event.OtherNode.{OtherNode}
 pub use Rattle.trace_model.specs.declared.event.StopEvent.{StopEvent}
 pub use Rattle.trace_model.specs.declared.reason.Reason.{Reason}
 pub use Rattle.trace_model.specs.declared.stop.Patch.{Patch}

@@ -40,9 +40,10 @@ use Rattle.trace_events.specs.declared.moments.Moment.{Moment}
 use Rattle.trace_laws.specs.AcceptedReplays.{FitsCpus, IsAccepted}
 use Rattle.smp_words.specs.declared.phase.TheConstants.{PREPARE, DISABLE_IRQ, EXIT, OVER}
 
--- the numbers of an event of calls are of its types
+-- the numbers of an event of calls are of its types; versions before 3 have nothing but calls in queues
 abbrev pub CallFits : CallEvent → Type 0
 CallFits (calls.Queue id to class func info) = (id < 2 ^ 16) × (to < 2 ^ 32) × (func < 2 ^ 64) × (info < 2 ^ 64)
+CallFits (calls.QueueOther to node) = ⊥
 CallFits (calls.Free id) = id < 2 ^ 16
 CallFits (calls.Send to) = to < 2 ^ 32
 CallFits (calls.Unlock id) = id < 2 ^ 16

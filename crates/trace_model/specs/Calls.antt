@@ -9,7 +9,7 @@ use Rattle.trace_model.specs.declared.halt.Halt.{Halt}
 use Rattle.trace_model.specs.declared.halt.Halt.TheVariants as halt
 use Rattle.trace_model.specs.declared.reason.Reason.{Reason}
 use Rattle.trace_model.specs.declared.reason.Reason.TheVariants as reason
-use Rattle.trace_model.specs.Cpu.{CpuState, accepted, as_idle, begun, begun_loose, ended, interrupted, is_empty, may_take, noted, pushed}
+use Rattle.trace_model.specs.Cpu.{CpuState, accepted, as_idle, begun, begun_loose, ended, interrupted, is_bare, may_take, noted, owing, pushed, pushed_other}
 use Rattle.trace_model.specs.Cpu.{runs_locked, sent, taken, unlocked}
 use Rattle.trace_model.specs.Online.{is_online}
 use Rattle.trace_model.specs.Places.{is_batch}
@@ -32,12 +32,27 @@ joined_first first call to s =
     with_place call.id (Queue to) (with_cpu call.source t (noted to first (cpu_at t call.source)))
 
 abbrev pub joined : Call → ℕ → StateValue → StateValue
-joined call to s = joined_first (is_empty (cpu_at s to).queue) call to s
+joined call to s = joined_first (is_bare (cpu_at s to)) call to s
 
 -- a call joins a queue: of a CPU that is online and not the caller, by a record that is free
 unfoldable pub queue_by : Call → ℕ → StateValue → Result StateValue Reason
 queue_by call to s =
     if is_online s.setting to then (if to == call.source then Err (reason.IsCaller to) else (freed call.id s >>= λ t. Ok (joined call to t)))
+    else Err (reason.NotOnline to)
+
+-- what is no call is in the queue of a CPU
+abbrev pub other_joined_first : Bool → ℕ → ℕ → StateValue → StateValue
+other_joined_first first cpu to s =
+    let t = with_cpu to s (pushed_other (cpu_at s to)) in
+    with_cpu cpu t (owing to first (cpu_at t cpu))
+
+abbrev pub other_joined : ℕ → ℕ → StateValue → StateValue
+other_joined cpu to s = other_joined_first (is_bare (cpu_at s to)) cpu to s
+
+-- what is no call joins a queue: of a CPU that is online and not the caller. Without the order of queues it is not kept
+unfoldable pub other_by : ℕ → ℕ → StateValue → Result StateValue Reason
+other_by cpu to s =
+    if is_online s.setting to then (if to == cpu then Err (reason.IsCaller to) else Ok (if s.setting.without.order then s else other_joined cpu to s))
     else Err (reason.NotOnline to)
 
 -- an interrupt is sent to a CPU that is online

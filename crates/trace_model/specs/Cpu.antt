@@ -13,9 +13,10 @@ use Rattle.trace_model.specs.declared.cpu.handling.Entry.{Entry}
 use Rattle.trace_model.specs.declared.reason.Reason.{Reason}
 use Rattle.trace_model.specs.declared.reason.Reason.TheVariants as reason
 
--- its queue and its batch, the call that it runs, its interrupts, the stop that it is in, and what it has counted
+-- its queue of calls, whether something else is queued, its batch, the call that it runs, its interrupts, the stop that it is in, and what it has counted
 pub record CpuState : Type 0 where
   pub queue : List Call
+  pub others : Bool
   pub batch : List Call
   pub current : Option Current
   pub pending : Bool
@@ -30,6 +31,7 @@ pub record CpuState : Type 0 where
 abbrev pub fresh_cpu : CpuState
 fresh_cpu = record {
   queue = [];
+  others = false;
   batch = [];
   current = None;
   pending = false;
@@ -62,6 +64,10 @@ handles_nothing c = quiet_with (not_over c) c.accepted
 abbrev pub pushed : Call → CpuState → CpuState
 pushed call c = record c { queue = c.queue ++ call ∷ [] }
 
+-- what is no call joins its queue
+abbrev pub pushed_other : CpuState → CpuState
+pushed_other c = record c { others = true }
+
 -- two classes are the same
 abbrev pub is_class : Class → Class → Bool
 is_class Sync Sync = true
@@ -84,7 +90,7 @@ order queue = of_class Sync queue ++ of_class Async queue
 
 -- it takes its whole queue
 abbrev pub taken : CpuState → CpuState
-taken c = record c { queue = []; batch = order c.queue; accepted = false }
+taken c = record c { queue = []; others = false; batch = order c.queue; accepted = false }
 
 -- a step was made and leads there, or it was refused for that reason
 abbrev pub Makes : {S : Type 0} → Result (Unit {0}) Reason → S → Result S Reason → Type 0
@@ -240,10 +246,17 @@ abbrev pub is_empty : List Call → Bool
 is_empty [] = true
 is_empty (x ∷ xs) = false
 
+abbrev pub is_bare : CpuState → Bool
+is_bare c = not c.others && is_empty c.queue
+
 -- it owes a CPU an interrupt where the queue was empty to which it has added
 abbrev pub owed_if : Bool → ℕ → List Bool → List Bool
 owed_if true to owes = slice_set owes to true
 owed_if false to owes = owes
+
+-- it has added to the queue of a CPU
+abbrev pub owing : ℕ → Bool → CpuState → CpuState
+owing to first c = record c { owes = owed_if first to c.owes }
 
 -- it has queued a call for a CPU
 abbrev pub noted : ℕ → Bool → CpuState → CpuState

@@ -6,7 +6,7 @@ use Rattle.smp_mask.specs.Mask.{has}
 use Rattle.trace_model.specs.declared.call.Place.{Place}
 use Rattle.trace_model.specs.declared.call.Place.TheVariants.{Free, Queue, Batch, Run}
 use Rattle.trace_model.specs.declared.stop.Stop.{Stop}
-use Rattle.trace_model.specs.Cpu.{CpuState, handles_nothing, is_empty}
+use Rattle.trace_model.specs.Cpu.{CpuState, handles_nothing, is_bare}
 use Rattle.trace_model.specs.State.{StateValue, cpu_at}
 use Rattle.trace_model.specs.Stop.{acked_by, answer_of, first_from}
 use Rattle.smp_words.specs.declared.phase.TheConstants.{OVER}
@@ -33,9 +33,9 @@ owed_by s to = first_from (λ source. owes s to source) 0 512
 abbrev pub is_busy : CpuState → Bool
 is_busy c = is_err (handles_nothing c)
 
--- calls are queued for a CPU
-abbrev pub has_calls : CpuState → Bool
-has_calls c = not (is_empty c.queue)
+-- something is queued for a CPU
+abbrev pub has_nodes : CpuState → Bool
+has_nodes c = not (is_bare c)
 
 -- a record is not free
 abbrev pub is_locked : Place → Bool
@@ -44,7 +44,7 @@ is_locked _ = true
 
 -- how many queues are not empty, how many records are not free, and how many CPUs handle
 abbrev pub heads_of : StateValue → ℕ
-heads_of s = count_by has_calls s.cpus
+heads_of s = count_by has_nodes s.cpus
 
 abbrev pub locked_of : StateValue → ℕ
 locked_of s = count_by is_locked s.places

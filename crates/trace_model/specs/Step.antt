@@ -13,7 +13,7 @@ use Rattle.trace_model.specs.declared.event.Event.{Event}
 use Rattle.trace_model.specs.declared.event.Event.TheVariants as event
 use Rattle.trace_model.specs.declared.reason.Reason.{Reason}
 use Rattle.trace_model.specs.declared.reason.Reason.TheVariants as reason
-use Rattle.trace_model.specs.Calls.{accept_by, begin_by, end_by, idle_by, queue_by, send_by, take_by, unlock_by}
+use Rattle.trace_model.specs.Calls.{accept_by, begin_by, end_by, idle_by, other_by, queue_by, send_by, take_by, unlock_by}
 use Rattle.trace_model.specs.Labels.{nudged, read_key, read_site}
 use Rattle.trace_model.specs.State.{StateValue, cpu_at, freed}
 use Rattle.trace_model.specs.Stops.{ack_by, collect_by, complete_by, enter_by, gate_by, off_by, on_by, open_by, patch_by, raise_by, run_by, ungate_by}
@@ -38,6 +38,7 @@ nudge_by cpu key up s = reads_by cpu s >>= λ u. nudged_word key up s
 -- an event of calls
 unfoldable pub call_goes : ℕ → CallEvent → StateValue → Result StateValue Reason
 call_goes cpu (calls.Queue id to class func info) s = Ok s
+call_goes cpu (calls.QueueOther to node) s = other_by cpu to s
 call_goes cpu (calls.Free id) s = freed id s
 call_goes cpu (calls.Send to) s = send_by cpu to s
 call_goes cpu calls.Accept s = accept_by cpu s

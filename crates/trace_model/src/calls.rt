@@ -1,7 +1,8 @@
 //! Events of calls.
 
 ghost use Rattle.std.specs.Prelude.{◌≡◌, ◌<◌, length, OnOk};
-ghost use Rattle.trace_model.specs.Calls.{begin_by, end_by, joined, moved, place_of_run, placed, queue_by, send_by, take_by, unlock_by, Steps};
+ghost use Rattle.trace_model.specs.Calls.{begin_by, end_by, joined, moved, other_by, other_joined, place_of_run, placed, queue_by, send_by, take_by, unlock_by};
+ghost use Rattle.trace_model.specs.Calls.{Steps};
 ghost use Rattle.trace_model.specs.Cpu.{Makes};
 ghost use Rattle.trace_model.specs.State.{cpu_at, with_place};
 
@@ -51,10 +52,39 @@ impl<A: Allocator + Copy> State<A> {
         requires to { to < 512 }
         ensures { OnOk result (self.new ≡ joined call to self.old) }
     {
-        let first = self.has_empty_queue(to);
+        let first = self.is_bare(to);
         self.push(to, call)?;
         self.note_queued(call.source, to, first);
         self.put_place(call.id, Place::Queue(to));
+        Ok(())
+    }
+
+    /// What is no call is in the queue of a CPU.
+    fn join_other(&mut self, cpu: u32, to: u32)
+        requires source { cpu < 512 }
+        requires to { to < 512 }
+        ensures { self.new ≡ other_joined cpu to self.old }
+    {
+        let first = self.is_bare(to);
+        self.push_other(to);
+        self.note_owed(cpu, to, first);
+    }
+
+    /// What is no call joins a queue. Without the order of queues nothing shows how it leaves one, so it is not kept.
+    #[tactic(auto, unfolding(crate::specs::Calls::other_by))]
+    pub(crate) fn queue_other(&mut self, cpu: u32, to: u32) -> Result<(), Reason>
+        requires { cpu < 512 }
+        ensures { Makes result self.new (other_by cpu to self.old) }
+    {
+        if !self.setting.is_online(to) {
+            return Err(Reason::NotOnline(to));
+        }
+        if to == cpu {
+            return Err(Reason::IsCaller(to));
+        }
+        if !self.setting.without.order {
+            self.join_other(cpu, to);
+        }
         Ok(())
     }
 

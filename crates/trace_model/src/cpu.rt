@@ -1,9 +1,9 @@
 //! One CPU of the model: its queue, its batch, the call that it runs, and its interrupts.
 
 ghost use Rattle.std.specs.Prelude.{◌≡◌, slice_index_or, false, OnOk};
-ghost use Rattle.trace_model.specs.Cpu.{counted, fresh_cpu, in_stop, interrupted, is_empty, noted};
-ghost use Rattle.trace_model.specs.Cpu.{pushed, sent, with_interrupts};
-ghost use Rattle.trace_model.specs.Ending.{has_calls};
+ghost use Rattle.trace_model.specs.Cpu.{counted, fresh_cpu, in_stop, interrupted, is_bare, noted, owing};
+ghost use Rattle.trace_model.specs.Cpu.{pushed, pushed_other, sent, with_interrupts};
+ghost use Rattle.trace_model.specs.Ending.{has_nodes};
 
 pub(crate) mod handling;
 
@@ -27,6 +27,8 @@ fn count(counts: &mut [u64; 512], at: u32)
 pub(crate) struct Cpu<A: Allocator> {
     /// The calls that are queued for it, oldest first.
     queue: Vec<Call, A>,
+    /// Whether wakes or irq work are queued for it.
+    others: bool,
     /// What is left of the calls that it has taken, in the order in which they run.
     batch: VecDeque<Call, A>,
     current: Option<Current>,
@@ -51,6 +53,7 @@ impl<A: Allocator> Model for Cpu<A> {
 
     ghost view = { λ c. record {
       queue = c.queue.items;
+      others = c.others;
       batch = c.batch.items;
       current = c.current;
       pending = c.pending;
@@ -70,6 +73,7 @@ impl<A: Allocator + Copy> Cpu<A> {
     {
         Cpu {
             queue: Vec::new(alloc),
+            others: false,
             batch: VecDeque::new(alloc),
             current: None,
             pending: false,
@@ -92,11 +96,18 @@ impl<A: Allocator + Copy> Cpu<A> {
         }
     }
 
-    /// Whether nothing is queued for it.
-    pub(crate) fn has_empty_queue(&self) -> bool
-        ensures { result ≡ is_empty self.now.queue }
+    /// What is no call joins its queue.
+    pub(crate) fn push_other(&mut self)
+        ensures { self.new ≡ pushed_other self.old }
     {
-        self.queue.is_empty()
+        self.others = true;
+    }
+
+    /// Whether nothing is queued for it.
+    pub(crate) fn is_bare(&self) -> bool
+        ensures { result ≡ is_bare self.now }
+    {
+        !self.others && self.queue.is_empty()
     }
 
     /// The calls that are queued for it.
@@ -106,14 +117,21 @@ impl<A: Allocator + Copy> Cpu<A> {
         self.queue.as_slice()
     }
 
-    /// It has queued a call for a CPU, and owes it an interrupt where that queue was empty.
+    /// It has added to the queue of a CPU, and owes it an interrupt where that queue was empty.
+    pub(crate) fn note_owed(&mut self, to: u32, first: bool)
+        ensures { self.new ≡ owing to first self.old }
+    {
+        if first {
+            put(&mut self.owes, to, true);
+        }
+    }
+
+    /// It has queued a call for a CPU.
     pub(crate) fn note_queued(&mut self, to: u32, first: bool)
         ensures { self.new ≡ noted to first self.old }
     {
         count(&mut self.queued, to);
-        if first {
-            put(&mut self.owes, to, true);
-        }
+        self.note_owed(to, first);
     }
 
     /// It has sent a CPU an interrupt.
@@ -193,10 +211,10 @@ impl<A: Allocator + Copy> Cpu<A> {
         self.pending
     }
 
-    /// Whether calls are queued for it.
-    pub(crate) fn has_calls(&self) -> bool
-        ensures { result ≡ has_calls self.now }
+    /// Whether something is queued for it.
+    pub(crate) fn has_nodes(&self) -> bool
+        ensures { result ≡ has_nodes self.now }
     {
-        !self.queue.is_empty()
+        !self.is_bare()
     }
 }

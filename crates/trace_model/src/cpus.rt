@@ -2,7 +2,7 @@
 
 ghost use Rattle.std.specs.Prelude.{◌≡◌, ◌<◌, true, false, is_some, OnOk};
 ghost use Rattle.trace_model.specs.Calls.{accept_by, idle_by, on_cpu, entered_by};
-ghost use Rattle.trace_model.specs.Cpu.{ended, interrupted, is_empty, may_take, noted, pushed};
+ghost use Rattle.trace_model.specs.Cpu.{ended, interrupted, is_bare, may_take, noted, owing, pushed, pushed_other};
 ghost use Rattle.trace_model.specs.Cpu.{runs_locked, sent, taken, unlocked, Makes};
 ghost use Rattle.trace_model.specs.State.{cpu_at, with_cpu};
 
@@ -30,11 +30,27 @@ impl<A: Allocator + Copy> State<A> {
     }
 
     /// Whether nothing is queued for a CPU.
-    pub(crate) fn has_empty_queue(&self, cpu: u32) -> bool
+    pub(crate) fn is_bare(&self, cpu: u32) -> bool
         requires { cpu < 512 }
-        ensures { result ≡ is_empty (cpu_at self.now cpu).queue }
+        ensures { result ≡ is_bare (cpu_at self.now cpu) }
     {
-        self.cpus[cpu as usize].has_empty_queue()
+        self.cpus[cpu as usize].is_bare()
+    }
+
+    /// What is no call joins the queue of a CPU.
+    pub(crate) fn push_other(&mut self, cpu: u32)
+        requires { cpu < 512 }
+        ensures { self.new ≡ with_cpu cpu self.old (pushed_other (cpu_at self.old cpu)) }
+    {
+        self.cpus[cpu as usize].push_other();
+    }
+
+    /// A CPU has added to the queue of another.
+    pub(crate) fn note_owed(&mut self, cpu: u32, to: u32, first: bool)
+        requires { cpu < 512 }
+        ensures { self.new ≡ with_cpu cpu self.old (owing to first (cpu_at self.old cpu)) }
+    {
+        self.cpus[cpu as usize].note_owed(to, first);
     }
 
     /// A call joins the queue of a CPU.

@@ -2,7 +2,7 @@
 
 ghost use Rattle.std.specs.Prelude.{◌≡◌, ◌<◌, ◌^◌};
 ghost use Rattle.std.specs.Int.Bits.{bit_or};
-ghost use Rattle.trace_model.specs.Ending.{busy_of, has_calls, heads_of, is_busy, is_locked, is_waited_for};
+ghost use Rattle.trace_model.specs.Ending.{busy_of, has_nodes, heads_of, is_busy, is_locked, is_waited_for};
 ghost use Rattle.trace_model.specs.Ending.{joined_if, locked_of, owed_by, owes, queue_length, queued_by, ran_of};
 ghost use Rattle.trace_model.specs.Ending.{waiting, waits};
 ghost use Rattle.trace_model.specs.State.{cpu_at};
@@ -100,6 +100,14 @@ impl<A: Allocator + Copy> State<A> {
         self.cpus[cpu as usize].queued_calls().len()
     }
 
+    /// Whether anything is queued for a CPU.
+    pub fn has_nodes(&self, cpu: u32) -> bool
+        requires { cpu < 512 }
+        ensures { result ≡ has_nodes (cpu_at self.now cpu) }
+    {
+        self.cpus[cpu as usize].has_nodes()
+    }
+
     /// Whether a CPU has accepted an interrupt.
     pub fn has_accepted(&self, cpu: u32) -> bool
         requires { cpu < 512 }
@@ -141,7 +149,7 @@ impl<A: Allocator + Copy> State<A> {
     pub fn heads(&self) -> usize
         ensures { result ≡ heads_of self.now }
     {
-        self.cpus.iter().filter(|cpu| cpu.has_calls()).count()
+        self.cpus.iter().filter(|cpu| cpu.has_nodes()).count()
     }
 
     /// How many records are not free.

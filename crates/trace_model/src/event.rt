@@ -3,11 +3,21 @@
 use crate::stop::Task;
 use smp_words::call::Class;
 
+/// What shares the queue of a CPU with calls, and is no call (`CSD_TYPE_TTWU`, `CSD_TYPE_IRQ_WORK`).
+#[derive(Clone, Copy, Debug, PartialEq, Eq)]
+pub enum OtherNode {
+    /// A task that is to be woken.
+    Wake,
+    IrqWork,
+}
+
 /// An event of calls.
 #[derive(Clone, Copy, Debug, PartialEq, Eq)]
 pub enum CallEvent {
     /// A call by this record, with its destination, class, function and argument, joins a queue.
     Queue(u16, u32, Class, u64, u64),
+    /// What is no call joins the queue of a CPU.
+    QueueOther(u32, OtherNode),
     /// The record is seen unlocked.
     Free(u16),
     Send(u32),

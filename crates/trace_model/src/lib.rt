@@ -29,7 +29,7 @@ mod stops;
 mod table;
 pub mod without;
 
-pub use event::{CallEvent, Event, LabelEvent, StopEvent};
+pub use event::{CallEvent, Event, LabelEvent, OtherNode, StopEvent};
 pub use halt::Halt;
 pub use reason::Reason;
 pub use state::State;

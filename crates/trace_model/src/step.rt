@@ -71,6 +71,7 @@ impl<A: Allocator + Copy> State<A> {
         ensures { Makes result self.new (call_goes cpu event self.old) }
     {
         match event {
+            CallEvent::QueueOther(to, _) => self.queue_other(cpu, to),
             CallEvent::Free(id) => self.free(id),
             CallEvent::Send(to) => self.send(cpu, to),
             CallEvent::Accept => self.accept(cpu),

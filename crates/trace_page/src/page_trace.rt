@@ -69,7 +69,7 @@ function beginning() {
   return { cpus: new Map(), gate: null, stops: new Map(), keys, kinds };
 }
 const cpuOf = (state, cpu) => {
-  const fresh = { queue: [], batch: [], current: null, pending: false, accepted: false, irq: true, inside: null };
+  const fresh = { queue: [], others: [], batch: [], current: null, pending: false, accepted: false, irq: true, inside: null };
   if (!state.cpus.has(cpu)) state.cpus.set(cpu, { ...fresh, owes: new Set() });
   return state.cpus.get(cpu);
 };
@@ -91,12 +91,24 @@ function slip(state, id) {
     if (call && !cpu.current) runs(cpu, call, 'is unlocked');
   }
 }
+// Wakes and irq work share a queue, and are no calls.
+const isOther = ({ name, args }) => name === 'queue' && args.length === 2;
+function owe(state, cpu, to) {
+  const { queue, others } = cpuOf(state, to);
+  if (queue.length + others.length === 0) cpu.owes.add(to);
+}
 const acts = {
   queue(state, cpu, event) {
     const { cpu: source, args: [id, to, kind, func, info] } = event;
+    if (isOther(event)) {
+      if (left.has('order')) return;
+      owe(state, cpu, Number(id));
+      cpuOf(state, Number(id)).others.push(to);
+      return;
+    }
     slip(state, id);
     const target = cpuOf(state, Number(to));
-    if (target.queue.length === 0) cpu.owes.add(Number(to));
+    owe(state, cpu, Number(to));
     target.queue.push({ id, kind, source, what: whatOf(event, `function ${func}, info ${info}`) });
   },
   free(state, cpu, { args: [id] }) { slip(state, id); },
@@ -104,7 +116,7 @@ const acts = {
   accept(state, cpu) { Object.assign(cpu, { pending: false, accepted: true }); },
   take(state, cpu) {
     const of = (kind) => cpu.queue.filter((call) => call.kind === kind);
-    Object.assign(cpu, { batch: [...of('sync'), ...of('async')], queue: [], accepted: false });
+    Object.assign(cpu, { batch: [...of('sync'), ...of('async')], queue: [], others: [], accepted: false });
   },
   unlock(state, cpu) { if (cpu.current) cpu.current = null; else runs(cpu, cpu.batch[0], 'is unlocked'); },
   begin(state, cpu, { args: [id] }) {
@@ -176,7 +188,7 @@ function after(state, event) {
     const stop = state.stops.get(of);
     const { source } = stop || known || event;
     turns(`phase ${of}`, source, number, stop !== undefined && events.length > 30, 'phase', `phase ${stop && stop.phase}`);
-    if (name === 'queue') sources.set(`call ${id}`, event);
+    if (name === 'queue' && !isOther(event)) sources.set(`call ${id}`, event);
     if (name === 'begin') link(sources, `call ${id}`, event, 'call');
     if (name === 'send') sources.set(`intr ${id}`, event);
     if (name === 'accept') link(sources, `intr ${cpu}`, event, 'interrupt');
@@ -196,10 +208,11 @@ const chainText = (calls) => calls.map(callText).join(' &#8594; ');
 function queuesText(state) {
   const items = [];
   for (const number of allCpus(state)) {
-    const { queue, batch } = cpuOf(state, number);
+    const { queue, others, batch } = cpuOf(state, number);
     const owed = allCpus(state).filter((other) => cpuOf(state, other).owes.has(number));
     const why = !left.has('interrupts') && owed.length ? ` (CPU ${maskText(owed)} owes an interrupt)` : '';
     if (queue.length) items.push(`queue of CPU ${number}, oldest first${why}: ${chainText(queue)}`);
+    if (others.length) items.push(`in the queue of CPU ${number}${queue.length ? '' : why}, no calls: ${others.join(', ')}`);
     if (batch.length) items.push(`batch that CPU ${number} took, in its order: ${chainText(batch)}`);
   }
   return list(items) || 'Every queue is empty, and so is every batch.';
@@ -244,14 +257,15 @@ const notes = {
 function toldText(event) {
   const number = `Event <a href="#event-${event.number}">${event.number}</a> of 0 to ${events.length - 1}`;
   const why = event.isRefused ? ` &#10007; <b>refused: ${escaped(broken[2])}</b>` : '';
-  const where = `line ${event.line} of the text. ${notes[event.name] || ''}`;
+  const note = isOther(event) ? 'What is no call joins the queue of this CPU.' : notes[event.name] || '';
+  const where = `line ${event.line} of the text. ${note}`;
   return `${number}, CPU ${event.cpu}: <code>${escaped(event.told)}</code>${why}<br><span class="soft">${where}</span>`;
 }
 
 // The pieces of the page, and the ways to go on and back that are not by event.
 const pageTitle = () => `A trace of ${events.length} events on CPUs ${maskText(online)}: it is ${broken ? 'not ' : ''}lawful`;
 const partTexts = { cpus: cpusText, queues: queuesText, stops: stopsText, labels: labelsText };
-const hasRecord = ({ name }) => /^(queue|free|unlock|begin|end)$/.test(name);
+const hasRecord = (event) => /^(queue|free|unlock|begin|end)$/.test(event.name) && !isOther(event);
 const ownMoves = {
   'event of this CPU': { back: 'P', on: 'p', is: (event, now) => event.cpu === now.cpu },
   'event of this record': { back: 'R', on: 'r', is: (event, now) => hasRecord(event) && (!hasRecord(now) || event.args[0] === now.args[0]) },

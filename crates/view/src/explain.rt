@@ -121,6 +121,22 @@ impl<'a, A: Allocator> Wrong<'a, A> {
         matches!(self.cause, Cause::Number | Cause::Range | Cause::Mask)
     }
 
+    // In version 3 two lines of different lengths have the same name: of one that is as long as the shorter, the last field where
+    // that alone is wrong.
+    fn last_of_shorter(&self) -> Option<usize> {
+        let last = self.fields.len().checked_sub(1)?;
+        let is_it = |template: &String<A>| {
+            let template = template.as_str();
+            length_of(template) == self.fields.len()
+                && front(&self.setting, template, self.fields) == last
+        };
+        if self.setting.is_third && self.templates.iter().any(is_it) {
+            Some(last)
+        } else {
+            None
+        }
+    }
+
     // The field at fault, counted from 0: of a wrong word or number of fields the first at which the line leaves all templates,
     // else the first that is refused.
     fn field_at_fault(&self) -> usize {
@@ -132,7 +148,10 @@ impl<'a, A: Allocator> Wrong<'a, A> {
             }
             furthest = furthest.max(front(&self.setting, template, self.fields));
         }
-        furthest
+        if furthest < self.fields.len() {
+            return furthest;
+        }
+        self.last_of_shorter().unwrap_or(furthest)
     }
 
     // Whether the line keeps to a template up to this field.

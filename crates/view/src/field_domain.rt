@@ -136,6 +136,7 @@ fn words_in(setting: &TextSetting, name: &str) -> Domain<'static> {
         ("VERSION", _) => Domain::OneOf("1, 2"),
         ("CLASS", TextKind::Trace) if setting.has_unknown => Domain::OneOf("sync, async, unknown"),
         ("CLASS", _) => Domain::OneOf("sync, async"),
+        ("NODE", _) => Domain::OneOf("wake, irqwork"),
         ("KIND", _) => Domain::OneOf("one, multi, patch"),
         ("W", _) => Domain::OneOf("wait, nowait"),
         _ => Domain::OneOf(GROUPS),
@@ -148,7 +149,7 @@ pub fn domain_of<'a>(setting: &TextSetting, template: &str, name: &'a str) -> Do
         return Domain::Word(name);
     }
     match name {
-        "VERSION" | "CLASS" | "KIND" | "W" | "GROUP" => words_in(setting, name),
+        "VERSION" | "CLASS" | "NODE" | "KIND" | "W" | "GROUP" => words_in(setting, name),
         "NR" | "MASK" | "C" | "CPU" => cpus_in(setting, template, name),
         "ACTIVE" if template.contains("stop_machine") => Domain::MaskOrNone,
         "DST" if template.contains("call_single") => Domain::Member,

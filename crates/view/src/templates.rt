@@ -84,10 +84,15 @@ const EVENTS: [&str; 27] = [
     "nudge K down",
 ];
 
-/// How a stop is opened and its result collected, and in version 3, where it has a number of its own.
+/// How a stop is opened and its result collected.
 const STOPS: [&str; 2] = ["open KIND MASK ACTIVE FUNC ARG", "collect V"];
 
-const NUMBERED_STOPS: [&str; 2] = ["open S KIND MASK ACTIVE FUNC ARG", "collect S V"];
+/// The same in version 3, where a stop has a number of its own; and what joins a queue and is no call.
+const THIRD_EVENTS: [&str; 3] = [
+    "open S KIND MASK ACTIVE FUNC ARG",
+    "collect S V",
+    "queue D NODE",
+];
 
 /// The lines that a text may have, each as a template.
 pub type Templates<A> = Vec<String<A>, A>;
@@ -158,8 +163,10 @@ fn push_body<A: Allocator + Copy>(
         }
         TextKind::Trace => {
             push_behind(alloc, found, "C ", &EVENTS)?;
-            let stops = if is_third { &NUMBERED_STOPS } else { &STOPS };
-            push_behind(alloc, found, "C ", stops)
+            if is_third {
+                return push_behind(alloc, found, "C ", &THIRD_EVENTS);
+            }
+            push_behind(alloc, found, "C ", &STOPS)
         }
     }
 }

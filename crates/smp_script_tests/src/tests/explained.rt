@@ -16,7 +16,7 @@ fn explained(alloc: Global, text: &[u8]) -> Result<(Vec<u8, Global>, Outcome), S
 
 #[test]
 fn what_may_stand_there(rt: HostRuntime) -> Result<(), Fail> {
-    let cases: [(&str, &str); 23] = [
+    let cases: [(&str, &str); 24] = [
         (
             "smp 2 trace\ncpus 2 0-1\nlabels 1 0:0\n0 set 1 1\n",
             "line 4 Range: a number outside the range of its field
@@ -42,6 +42,15 @@ fn what_may_stand_there(rt: HostRuntime) -> Result<(), Fail> {
   field 5, CLASS: here is `x`
     here may be: sync, async, unknown
     the line: C queue R D CLASS FUNC INFO
+",
+        ),
+        (
+            "smp 3 trace\ncpus 2 0-1\n0 queue 1 wakes\n",
+            "line 3 Word: a wrong word, or too few or too many fields
+  0 queue 1 wakes
+  field 4: here is `wakes`
+    here may be: a number from 0 to 4294967295
+    here may be: wake, irqwork
 ",
         ),
         (
@@ -265,7 +274,7 @@ fn the_changed_field_is_named(rt: HostRuntime) -> Result<(), Fail> {
     let trace = "smp 2 trace\ncpus 2 0-1\n";
     let labelled = "smp 2 trace\ncpus 2 0-1\nlabels 1 0:0\n";
     let third = "smp 3 trace\ncpus 2 0-1\nwithout interrupts order unlocks\n";
-    let cases: [(&str, &str); 45] = [
+    let cases: [(&str, &str); 46] = [
         ("", "smp 1 replay"),
         ("smp 2 trace\n", "cpus 2 0-1"),
         (replay, "labels 1 0:1,0:0"),
@@ -311,6 +320,7 @@ fn the_changed_field_is_named(rt: HostRuntime) -> Result<(), Fail> {
         (third, "0 open 5 multi 0-1 0 7 9"),
         (third, "1 collect 5 -3"),
         (third, "0 queue 1 1 unknown 7 42"),
+        (third, "0 queue 1 wake"),
     ];
     for (head, line) in cases {
         assert_eq!(rt; first_unnamed(&rt, head, line)?, None, "{line}");

@@ -114,6 +114,49 @@ fn stops_have_numbers_of_their_own(rt: HostRuntime) -> Result<(), Fail> {
     Ok(())
 }
 
+// A wake of CPU 1 comes first, so the call behind it owes no interrupt. CPU 1 takes both. Irq work is left in its queue.
+const SHARED: &[u8] = b"smp 3 trace
+cpus 64 0-63
+40 queue 1 wake
+0 queue 7 1 sync 1 42
+40 send 1
+1 accept
+1 take
+1 begin 7 1 42
+1 end 7
+1 unlock 7
+0 queue 1 irqwork
+40 queue 1 wake
+";
+
+#[test]
+fn wakes_and_irq_work_share_the_queue(rt: HostRuntime) -> Result<(), Fail> {
+    let told = b"lawful 10 events\ntally 0 1 1 1\nqueue 1 0 owed 0\nleft 1 0 0\n".as_slice();
+    assert_eq!(rt; judged(rt.alloc(), SHARED)?.as_slice(), told);
+    let cases: [(&[u8], &[u8]); 4] = [
+        (
+            b"smp 3 trace\ncpus 4 0-3\n2 queue 1 wake\n0 queue 7 1 sync 1 42\n".as_slice(),
+            b"lawful 2 events\ntally 0 1 1 0\nqueue 1 1 owed 2\nleft 1 1 0\n".as_slice(),
+        ),
+        (
+            b"smp 3 trace\ncpus 4 0-3\nwithout interrupts order unlocks\n2 queue 1 wake\n".as_slice(),
+            b"lawful 1 events\ndrained\n".as_slice(),
+        ),
+        (
+            b"smp 3 trace\ncpus 4 0-3\n2 queue 2 irqwork\n".as_slice(),
+            b"line 3: CPU 2 queue: CPU 2 is the caller\n".as_slice(),
+        ),
+        (
+            b"smp 3 trace\ncpus 4 0-3\n2 queue 4 wake\n".as_slice(),
+            b"line 3: CPU 2 queue: CPU 4 is not online\n".as_slice(),
+        ),
+    ];
+    for (trace, told) in cases {
+        assert_eq!(rt; judged(rt.alloc(), trace)?.as_slice(), told);
+    }
+    Ok(())
+}
+
 // The second and the third line of a trace in which a class may be unknown.
 const UNKNOWN: &str = "cpus 2 0-1\nwithout interrupts order unlocks\n";
 
@@ -124,7 +167,7 @@ fn lines_of_version_3_alone(rt: HostRuntime) -> Result<(), Fail> {
         "smp 3 trace\n{UNKNOWN}0 queue 7 1 unknown 1 42\n1 begin 7 1 42\n1 end 7\n"
     )?;
     assert_eq!(rt; judged(rt.alloc(), call.as_bytes())?.as_slice(), told);
-    let cases: [(&str, &str, &str, Cause); 8] = [
+    let cases: [(&str, &str, &str, Cause); 11] = [
         ("2", UNKNOWN, "0 queue 7 1 unknown 1 42", Cause::Word),
         (
             "3",
@@ -138,6 +181,9 @@ fn lines_of_version_3_alone(rt: HostRuntime) -> Result<(), Fail> {
         ("3", UNKNOWN, "0 collect 0", Cause::Word),
         ("3", UNKNOWN, "0 collect 64 0", Cause::Range),
         ("2", UNKNOWN, "0 collect 0 0", Cause::Word),
+        ("2", UNKNOWN, "0 queue 1 wake", Cause::Word),
+        ("3", UNKNOWN, "0 queue 1 call", Cause::Word),
+        ("3", UNKNOWN, "0 queue x irqwork", Cause::Number),
     ];
     for (version, head, line, cause) in cases {
         let trace = format!(in rt.alloc(); "smp {version} trace\n{head}{line}\n")?;

@@ -1,7 +1,8 @@
 -- What each event of calls shows.
+use Rattle.trace_laws.proofs.Names.{OtherNode, other_by, owing, pushed_other}
 use Rattle.trace_laws.proofs.Names.{arith, Bool, Call, Class, CpuState, Err, Event, Free, List, Ok, Queue, Reason, Result, Shows, StateValue, [], accept_by}
 use Rattle.trace_laws.proofs.Names.{accepted, ap, begin_by, begin_of, cpu_at, end_by, ended, entered_by, eqb-false, eqb-true, false, freed, freed_if, id_of}
-use Rattle.trace_laws.proofs.Names.{if◌then◌else◌, interrupted, is_batch, is_empty, is_online, is_some, joined, length, map, may_take, moved, not, not_over}
+use Rattle.trace_laws.proofs.Names.{if◌then◌else◌, interrupted, is_bare, is_batch, is_online, is_some, joined, length, map, may_take, moved, not, not_over}
 use Rattle.trace_laws.proofs.Names.{noted, notes_now, on_cpu, only_if, place_at, place_reason, placed_unless, pushed, queue_by, queued_now, refl, runs_locked}
 use Rattle.trace_laws.proofs.Names.{send_by, sent, subst, sym, take_by, taken, takes_now, true, unlock_by, unlocked, with_cpu, with_place, ℕ, ◌&&◌, ◌<◌, ◌==◌}
 use Rattle.trace_laws.proofs.Names.{◌>>=◌, ◌∷◌, ◌≡◌}
@@ -74,7 +75,7 @@ joined_goes : (told : Bool) (cpu to : ℕ) (call : Call) (s : StateValue) → cp
 joined_goes told cpu to call s below =
     let t = with_cpu to s (pushed call (cpu_at s to)) in
     let u = with_place call.id (Queue to) t in
-    let first = is_empty (cpu_at s to).queue in
+    let first = is_bare (cpu_at s to) in
     let g = joined_shows told cpu to call s below (to == cpu) refl in
     let h = goes_last told cpu (only_if (to == cpu) call) false [] [] [] s t u g (goes_same told cpu t u refl refl) in
     goes_last told cpu (only_if (to == cpu) call) false [] [] (only_if (call.source == cpu) to) s u (joined call to s) h
@@ -120,6 +121,33 @@ send_shows order cpu actor to s t below e =
     ends_at order cpu (actor, event.Call (calls.Send to)) s (with_cpu actor m d) t same
     (quiet_event order cpu (actor, event.Call (calls.Send to)) s (with_cpu actor m d) refl refl refl refl refl (goes_first told cpu [] false [] [] [] s m
     (with_cpu actor m d) g h))
+
+-- one of two states, of which each has a property
+pub either_state : (P : StateValue → Type 0) (b : Bool) (s t : StateValue) → P s → P t → P (if b then s else t)
+either_state P true s t p q = p
+either_state P false s t p q = q
+
+pub other_shows : (order : Bool) (cpu actor to : ℕ) (node : OtherNode) (s t : StateValue) → cpu < length s.cpus → other_by actor to s ≡ Ok t
+    → EventShows order cpu (actor, event.Call (calls.QueueOther to node)) s t
+unfolding other_by
+other_shows order cpu actor to node s t below e =
+    let told = not order in
+    let c = pushed_other (cpu_at s to) in
+    let m = with_cpu to s c in
+    let d = owing to (is_bare (cpu_at s to)) (cpu_at m actor) in
+    let n = with_cpu actor m d in
+    let x = if s.setting.without.order then s else n in
+    let p = passed (is_online s.setting to) (if to == actor then Err (reason.IsCaller to) else Ok x) (reason.NotOnline to) t e in
+    let q = failed (to == actor) (Ok x) (reason.IsCaller to) t p.1 in
+    let same : x ≡ t = cc in
+    let g = goes_quiet told cpu to s c below (shows_same told (cpu_at s to) c
+    (record { queue = refl; batch = refl; current = refl; ran = refl; queued = refl })) in
+    let h = goes_quiet told cpu actor m d (rw g.cpus_are below) (shows_same told (cpu_at m actor) d
+    (record { queue = refl; batch = refl; current = refl; ran = refl; queued = refl })) in
+    let both = goes_first told cpu [] false [] [] [] s m n g h in
+    ends_at order cpu (actor, event.Call (calls.QueueOther to node)) s x t same
+    (quiet_event order cpu (actor, event.Call (calls.QueueOther to node)) s x refl refl refl refl refl
+    (either_state (GoesQuietly told cpu s) s.setting.without.order s n (goes_same told cpu s s refl refl) both))
 
 pub accepted_same : (a b : CpuState) → accepted a ≡ Ok b → SameCalls a b
 accepted_same a b h1 = search (passed, both_made, arith)

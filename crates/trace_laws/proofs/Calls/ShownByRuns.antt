@@ -6,7 +6,7 @@ use Rattle.trace_laws.proofs.Names.{waiting, ℕ, ◌++◌, ◌+◌, ◌<◌, �
 use Rattle.std.proofs.lemmas.List.Sums.{sum_by-append}
 use Rattle.trace_model.specs.declared.event.CallEvent.TheVariants as calls
 use Rattle.trace_model.specs.declared.event.Event.TheVariants as event
-use Rattle.trace_laws.proofs.Calls.CallEvents.{EventShows, accept_shows, begin_shows, end_shows, queue_shows, quiet_event, send_shows, take_shows, unlock_shows}
+use Rattle.trace_laws.proofs.Calls.CallEvents.{EventShows, accept_shows, begin_shows, end_shows, other_shows, queue_shows, quiet_event, send_shows, take_shows, unlock_shows}
 use Rattle.trace_laws.proofs.{Calls.CpuSteps.shows_same, Calls.MadeSteps.both_made, Calls.MadeSteps.low_event, Calls.OtherEvents.KeepsCalls}
 use Rattle.trace_laws.proofs.{Calls.OtherEvents.label_keeps_calls, Calls.OtherEvents.stop_keeps_calls, Calls.StateSteps.GoesQuietly}
 use Rattle.trace_laws.proofs.{Calls.StateSteps.freed_goes, Calls.StateSteps.goes_same, Calls.TwoSteps.joined, Calls.TwoSteps.joined_once}
@@ -25,6 +25,7 @@ unfolding call_goes
 call_shows order cpu actor (calls.Queue id to class func info) s t o below e = queue_shows order cpu actor id to class func info s t o below e
 call_shows order cpu actor (calls.Free id) s t o below e =
     quiet_event order cpu (actor, event.Call (calls.Free id)) s t refl refl refl refl refl (freed_goes order cpu id s t o below e)
+call_shows order cpu actor (calls.QueueOther to node) s t o below e = other_shows order cpu actor to node s t below e
 call_shows order cpu actor (calls.Send to) s t o below e = send_shows order cpu actor to s t below e
 call_shows order cpu actor calls.Accept s t o below e = accept_shows order cpu actor s t below e
 call_shows order cpu actor calls.Idle s t o below e =

@@ -1,9 +1,11 @@
 -- Each event leaves each record in one place.
+use Rattle.trace_laws.proofs.Names.{other_by, owing, pushed_other}
+use Rattle.trace_laws.proofs.Calls.CallEvents.{either_state}
 use Rattle.trace_laws.proofs.Names.{Batch, Bool, Call, CallEvent, Class, CpuState, Err, Event, Free, InOnePlace, IsTrace, LabelWords, List, Ok, PlacedAt}
 use Rattle.trace_laws.proofs.Names.{Queue, Run, Runs, Setting, StateValue, [], accept_by, accepted, ap, arith, begin_by, call_goes, cases_eq, cases_lt}
 use Rattle.trace_laws.proofs.Names.{cond, count_by, cpu_at, end_by, ended, entered_by, eq-eqb, false, freed, freed_by, freed_from, freed_if, fresh_cpu}
 use Rattle.trace_laws.proofs.Names.{get_or-replicate, get_or-set_other, get_or-set_same, get_or_past, goes, idle_by, if◌then◌else◌, in_batch, in_queue, inl}
-use Rattle.trace_laws.proofs.Names.{inr, interrupted, is_batch, is_empty, is_online, is_queue, is_record, is_some, is_sync, joined, length, length-replicate}
+use Rattle.trace_laws.proofs.Names.{inr, interrupted, is_bare, is_batch, is_online, is_queue, is_record, is_some, is_sync, joined, length, length-replicate}
 use Rattle.trace_laws.proofs.Names.{length-set, may_take, moved, nat_lt, ne_eqb, not, not_over, noted, on_cpu, one_if, opening, order, place_at, place_of_run}
 use Rattle.trace_laws.proofs.Names.{place_reason, placed, placed_unless, places_free, pushed, queue_by, refl, runs_locked, send_by, sent, slice_index_or}
 use Rattle.trace_laws.proofs.Names.{slice_set, slip_in, slipped_from_batch, slipped_from_queue, subst, sum_by-IsPermutation, sym, take_by, taken, true}
@@ -89,7 +91,7 @@ placed_joined : (call : Call) (to : ℕ) (s : StateValue) → Placed s → (call
 placed_joined call to s p free =
     let u = with_place call.id (Queue to) (with_cpu to s (pushed call (cpu_at s to))) in
     let q = placed_shift s to call.id Nowhere InQueue (pushed call (cpu_at s to)) p (shift_pushed call (cpu_at s to) (async_any s to p)) free in
-    placed_rests u call.source (noted to (is_empty (cpu_at s to).queue) (cpu_at u call.source)) q
+    placed_rests u call.source (noted to (is_bare (cpu_at s to)) (cpu_at u call.source)) q
     (record { queue = λ r. refl; batch = λ r. refl; run = λ r. refl; async = async_any u call.source q })
 
 placed_queue : (source id to : ℕ) (class : Class) (func info : ℕ) (s t : StateValue) → Placed s
@@ -114,6 +116,20 @@ placed_send actor to s t pl e =
     let q = placed_rests s to c pl (record { queue = λ r. refl; batch = λ r. refl; run = λ r. refl; async = async_any s to pl }) in
     placed_end (with_cpu actor m d) t (cc) (placed_rests m actor d q
     (record { queue = λ r. refl; batch = λ r. refl; run = λ r. refl; async = async_any m actor q }))
+
+placed_other : (actor to : ℕ) (s t : StateValue) → Placed s → other_by actor to s ≡ Ok t → Placed t
+unfolding other_by
+placed_other actor to s t pl e =
+    let c = pushed_other (cpu_at s to) in
+    let m = with_cpu to s c in
+    let d = owing to (is_bare (cpu_at s to)) (cpu_at m actor) in
+    let n = with_cpu actor m d in
+    let x = if s.setting.without.order then s else n in
+    let p = passed (is_online s.setting to) (if to == actor then Err (reason.IsCaller to) else Ok x) (reason.NotOnline to) t e in
+    let q = failed (to == actor) (Ok x) (reason.IsCaller to) t p.1 in
+    let pm = placed_rests s to c pl (record { queue = λ r. refl; batch = λ r. refl; run = λ r. refl; async = async_any s to pl }) in
+    let pn = placed_rests m actor d pm (record { queue = λ r. refl; batch = λ r. refl; run = λ r. refl; async = async_any m actor pm }) in
+    placed_end x t (cc) (either_state Placed s.setting.without.order s n pl pn)
 
 placed_accept : (actor : ℕ) (s t : StateValue) → Placed s → accept_by actor s ≡ Ok t → Placed t
 placed_accept actor s t pl e =
@@ -317,6 +333,7 @@ placed_call : (actor : ℕ) (e : CallEvent) (s t : StateValue) → Placed s → 
 unfolding call_goes
 placed_call actor (calls.Queue id to class func info) s t p e = placed_queue actor id to class func info s t p e
 placed_call actor (calls.Free id) s t p e = (freed_place id (place_at s id) s t refl p e).placed
+placed_call actor (calls.QueueOther to node) s t p e = placed_other actor to s t p e
 placed_call actor (calls.Send to) s t p e = placed_send actor to s t p e
 placed_call actor calls.Accept s t p e = placed_accept actor s t p e
 placed_call actor calls.Idle s t p e = let m = both_made (idle_by actor s) (λ u. Ok s) t e in placed_end s t (cc) p

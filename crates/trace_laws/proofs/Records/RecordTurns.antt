@@ -1,4 +1,6 @@
 -- A record is locked from the `queue` of a call to its `unlock`.
+use Rattle.trace_laws.proofs.Names.{OtherNode, is_bare, other_by, owing, pushed_other}
+use Rattle.trace_laws.proofs.Calls.CallEvents.{either_state}
 use Rattle.trace_laws.proofs.Names.{arith, Batch, Bool, Call, CallEvent, Class, CpuState, Err, Event, Free, List, Ok, Queue, Run, Runs}
 use Rattle.trace_laws.proofs.Names.{StateValue, [], accepted, ap, begin_by, call_goes, cases_eq, cpu_at, end_by, ended, entered_by}
 use Rattle.trace_laws.proofs.Names.{eq-eqb, false, freed, freed_from, freed_if, get_or-set_other, get_or-set_same, goes, idle_by, if◌then◌else◌, in_queue, inl}
@@ -181,11 +183,25 @@ send_turns actor to r s t e =
     let same : x ≡ t = cc in
     record { allows = tt; after = same_places s t r (ap (λ y. y.places) (sym same)) }
 
+other_turns : (actor to r : ℕ) (node : OtherNode) (s t : StateValue) → s.setting.without.order ≡ false → other_by actor to s ≡ Ok t
+    → Turns r actor (event.Call (calls.QueueOther to node)) s t
+unfolding other_by
+other_turns actor to r node s t order e =
+    let m = with_cpu to s (pushed_other (cpu_at s to)) in
+    let x = with_cpu actor m (owing to (is_bare (cpu_at s to)) (cpu_at m actor)) in
+    let y = if s.setting.without.order then s else x in
+    let p = passed (is_online s.setting to) (if to == actor then Err (reason.IsCaller to) else Ok y) (reason.NotOnline to) t e in
+    let q = failed (to == actor) (Ok y) (reason.IsCaller to) t p.1 in
+    let same : y ≡ t = cc in
+    let places : y.places ≡ s.places = either_state (λ z. z.places ≡ s.places) s.setting.without.order s x refl refl in
+    record { allows = tt; after = same_places s t r (ap (λ z. z.places) (sym same) ∙ places) }
+
 call_turns : (actor r : ℕ) (e : CallEvent) (s t : StateValue) → Placed s → r < 65536 → s.setting.without.order ≡ false → s.setting.without.unlocks ≡ false
     → goes actor (event.Call e) s ≡ Ok t → Turns r actor (event.Call e) s t
 unfolding call_goes
 call_turns actor r (calls.Queue id to class func info) s t p low order unlocks e = queue_turns actor id to class func info r s t p unlocks low e
 call_turns actor r (calls.Free id) s t p low order unlocks e = free_turns actor id r s t unlocks e
+call_turns actor r (calls.QueueOther to node) s t p low order unlocks e = other_turns actor to r node s t order e
 call_turns actor r (calls.Send to) s t p low order unlocks e = send_turns actor to r s t e
 call_turns actor r calls.Accept s t p low order unlocks e =
     let m = made_on_cpu actor s t (accepted (cpu_at s actor)) e in record { allows = tt; after = same_places s t r (ap (λ y. y.places) (sym m.1.1)) }

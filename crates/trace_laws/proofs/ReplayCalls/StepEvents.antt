@@ -1,6 +1,6 @@
 -- The events of a step, and the state to which they lead.
 use Rattle.trace_laws.proofs.Names.{Async, Batch, Call, CpuState, Ended, Event, Free, List, None, Ok, Queue, Run, Some, StateValue, Sync, Unlocked, []}
-use Rattle.trace_laws.proofs.Names.{ap, arith, at_call, call_goes, cond, counted, cpu_at, eq-eqb, false, goes, has, if◌then◌else◌, interrupted, is_empty}
+use Rattle.trace_laws.proofs.Names.{ap, arith, at_call, call_goes, cond, counted, cpu_at, eq-eqb, false, goes, has, if◌then◌else◌, interrupted, is_bare}
 use Rattle.trace_laws.proofs.Names.{left_batch, map, map-append, moved, ne_eqb, noted, place_at, pushed, refl, sent, subst, taken, true, with_cpu}
 use Rattle.trace_laws.proofs.Names.{with_place, ℕ, ◌%◌, ◌++◌, ◌<◌, ◌==◌, ◌∙◌, ◌∷◌, ◌≡◌, ◌≢◌}
 use Rattle.trace_laws.proofs.ReplayNames.{AsyncCall, CallState, CallsOfCpu, CountedCall, Follows, Holding, MachineCall, Nothing, RecPlace, Running, Runs}
@@ -280,7 +280,7 @@ module _ (online : ℕ) (a : CallState) (s : StateValue) (f : Follows online a s
         let same : told_call h.call ≡ x = rw owned refl in
         let c = pushed x (cpu_at s to) in
         let t = with_cpu to s c in
-        let d = noted to (is_empty (cpu_at s to).queue) (cpu_at t me) in
+        let d = noted to (is_bare (cpu_at s to)) (cpu_at t me) in
         let u = with_cpu me t d in
         let v = with_place h.call.id (Queue to) u in
         let b : CallState = record a { queue = put a.queue to (a.queue to ++ h.call ∷ []) } in

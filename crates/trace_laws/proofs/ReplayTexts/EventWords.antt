@@ -11,7 +11,7 @@ use Rattle.trace_model.specs.declared.event.Event.TheVariants as event
 use Rattle.trace_model.specs.declared.event.LabelEvent.TheVariants as labels
 use Rattle.trace_model.specs.declared.event.StopEvent.TheVariants as stops
 use Rattle.trace_judge.specs.{Reading.below, Reading.jump_of, Reading.named_of, Reading.own_stop}
-use Rattle.trace_events.specs.Text.{event_text}
+use Rattle.trace_events.specs.Text.{event_text, node_text}
 use Rattle.trace_laws.specs.{ReplayTexts.CallFits, ReplayTexts.LabelFits}
 
 -- a trace is of version 2 and leaves nothing out, and its keys and sites have numbers of 32 bits
@@ -29,6 +29,7 @@ pub record Words : Type 0 where
 abbrev pub call_words : CallEvent → Words
 call_words (calls.Queue id to class func info) =
     record { name = codes "queue"; arguments = decimal id ∷ decimal to ∷ class_text class ∷ decimal func ∷ decimal info ∷ [] }
+call_words (calls.QueueOther to node) = record { name = codes "queue"; arguments = decimal to ∷ node_text node ∷ [] }
 call_words (calls.Free id) = record { name = codes "free"; arguments = decimal id ∷ [] }
 call_words (calls.Send to) = record { name = codes "send"; arguments = decimal to ∷ [] }
 call_words calls.Accept = record { name = codes "accept"; arguments = [] }
@@ -87,6 +88,7 @@ unfolding named_of
 call_reads u (calls.Queue id to class func info) second whole f =
     let c = class_written class in
     record { fields = search (numbers, c.0, arith); read = rw second (search (numbers, c.1, and_right, arith)) }
+call_reads u (calls.QueueOther to node) second whole f = absurd f
 call_reads u (calls.Send to) second whole f = record { fields = search (numbers, arith); read = rw whole (search (numbers, arith)) }
 call_reads u (calls.Unlock id) second whole f = record { fields = search (numbers, arith); read = rw whole (search (numbers, arith)) }
 call_reads u calls.Accept second whole f = record { fields = refl; read = rw whole refl }

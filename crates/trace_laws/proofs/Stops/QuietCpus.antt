@@ -1,8 +1,10 @@
 -- Events of calls leave stops as they are, and a CPU whose interrupts are off handles nothing.
+use Rattle.trace_laws.proofs.Names.{other_by, owing, pushed_other}
+use Rattle.trace_laws.proofs.Calls.CallEvents.{either_state}
 use Rattle.trace_laws.proofs.Names.{arith, Bool, Call, CallEvent, Class, CpuState, Current, Err, Free, List, None, Ok, Option, Progress, Queue, Reason, Result}
 use Rattle.trace_laws.proofs.Names.{Some, StateValue, [], accepted, begin_by, begun, begun_any, begun_at, begun_loose, begun_with, call_at, call_goes, cases_eq}
 use Rattle.trace_laws.proofs.Names.{cpu_at, end_by, ended, ended_at, ended_with, entered_by, false, freed, freed_by, freed_from, freed_if, front_of, goes}
-use Rattle.trace_laws.proofs.Names.{handles_nothing, idle_by, if◌then◌else◌, interrupted, is_batch, is_empty, is_online, is_some, joined, length, length-set}
+use Rattle.trace_laws.proofs.Names.{handles_nothing, idle_by, if◌then◌else◌, interrupted, is_bare, is_batch, is_online, is_some, joined, length, length-set}
 use Rattle.trace_laws.proofs.Names.{loose_with, may_take, moved, not, not_over, noted, on_cpu, over_with, place_at, place_in, place_reason, placed_unless}
 use Rattle.trace_laws.proofs.Names.{pushed, queue_by, quiet_with, refl, runs_locked, send_by, sent, slipped, slipped_any, slipped_at, slipped_from_batch}
 use Rattle.trace_laws.proofs.Names.{slipped_from_queue, slipped_front, subst, take_by, taken, true, unlock_by, unlocked, unlocked_running, unlocked_with}
@@ -193,7 +195,7 @@ keeps_joined : (call : Call) (to : ℕ) (s : StateValue) → KeepsRounds s (join
 keeps_joined call to s =
     let m = with_cpu to s (pushed call (cpu_at s to)) in
     let u = with_place call.id (Queue to) m in
-    let first = is_empty (cpu_at s to).queue in
+    let first = is_bare (cpu_at s to) in
     let c = noted to first (cpu_at u call.source) in
     keeps_then s m (joined call to s) (keeps_cpu to s (pushed call (cpu_at s to)) (record { inside = refl; irq = refl; quiet = λ off q. q }))
     (keeps_then m u (joined call to s) (keeps_same m u refl refl refl refl refl) (keeps_cpu call.source u c
@@ -219,6 +221,20 @@ keeps_send actor to s t e =
     keeps_end s (with_cpu actor m d) t (cc)
     (keeps_then s m (with_cpu actor m d) (keeps_cpu to s (interrupted (cpu_at s to)) (record { inside = refl; irq = refl; quiet = λ off q. q }))
     (keeps_cpu actor m d (record { inside = refl; irq = refl; quiet = λ off q. q })))
+
+keeps_other : (actor to : ℕ) (s t : StateValue) → other_by actor to s ≡ Ok t → KeepsRounds s t
+unfolding other_by
+keeps_other actor to s t e =
+    let c = pushed_other (cpu_at s to) in
+    let m = with_cpu to s c in
+    let d = owing to (is_bare (cpu_at s to)) (cpu_at m actor) in
+    let n = with_cpu actor m d in
+    let x = if s.setting.without.order then s else n in
+    let p = passed (is_online s.setting to) (if to == actor then Err (reason.IsCaller to) else Ok x) (reason.NotOnline to) t e in
+    let q = failed (to == actor) (Ok x) (reason.IsCaller to) t p.1 in
+    let first = keeps_cpu to s c (record { inside = refl; irq = refl; quiet = λ off q. q }) in
+    let second = keeps_cpu actor m d (record { inside = refl; irq = refl; quiet = λ off q. q }) in
+    keeps_end s x t (cc) (either_state (KeepsRounds s) s.setting.without.order s n (keeps_refl s) (keeps_then s m n first second))
 
 keeps_made : (actor : ℕ) (s t : StateValue) (made : Result CpuState Reason) → on_cpu actor s made ≡ Ok t → ((c : CpuState) → made ≡ Ok c →
     Rests (cpu_at s actor) c) → KeepsRounds s t
@@ -281,6 +297,7 @@ pub call_keeps_rounds : (actor : ℕ) (e : CallEvent) (s t : StateValue) → goe
 unfolding call_goes
 call_keeps_rounds actor (calls.Queue id to class func info) s t e = keeps_queue actor id to class func info s t e
 call_keeps_rounds actor (calls.Free id) s t e = keeps_freed id s t e
+call_keeps_rounds actor (calls.QueueOther to node) s t e = keeps_other actor to s t e
 call_keeps_rounds actor (calls.Send to) s t e = keeps_send actor to s t e
 call_keeps_rounds actor calls.Accept s t e = keeps_made actor s t (accepted (cpu_at s actor)) e (λ c f. rests_accepted (cpu_at s actor) c f)
 call_keeps_rounds actor calls.Idle s t e = let m = both_made (idle_by actor s) (λ u. Ok s) t e in keeps_end s s t (cc) (keeps_refl s)

@@ -86,6 +86,7 @@ impl<A: Allocator + Copy> Cpu<A> {
         join(&mut batch, &self.queue, Class::Sync)?;
         join(&mut batch, &self.queue, Class::Async)?;
         self.queue.clear();
+        self.others = false;
         self.batch = batch;
         self.accepted = false;
         Ok(())
