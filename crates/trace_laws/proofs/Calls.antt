@@ -8,4 +8,5 @@ pub mod Drained
 pub mod TwoSteps
 pub mod MadeSteps
 pub mod Targets
+pub mod LostQueues
 pub mod AcceptedTexts

@@ -12,6 +12,7 @@ pub mod Drained
 pub mod Targets
 pub mod AcceptedTexts
 pub mod ReadVersions
+pub mod LostQueues
 -- a state of the model that agrees with a machine
 pub mod AgreeingCalls
 pub mod AgreeingStops

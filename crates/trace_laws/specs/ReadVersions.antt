@@ -1,5 +1,5 @@
 -- What a trace of version 3 tells that one of version 2 does not.
-use Rattle.std.specs.Prelude.{◌≡◌, ℕ, ℤ, Bool, true, false, Ok, Err, codes}
+use Rattle.std.specs.Prelude.{◌≡◌, ℕ, ℤ, true, false, Ok, Err, codes}
 use Rattle.smp_mask.specs.declared.error.Cause.TheVariants.{Word}
 use Rattle.smp_words.specs.declared.call.Class.TheVariants.{Async}
 use Rattle.trace_judge.specs.Reading.{class_in, numbered}

@@ -6,6 +6,7 @@ use Rattle.smp_words.specs.declared.call.Class.{Class}
 use Rattle.trace_model.specs.declared.event.Event.{Event}
 use Rattle.trace_model.specs.declared.event.Event.TheVariants as event
 use Rattle.trace_model.specs.declared.event.CallEvent.TheVariants as calls
+use Rattle.trace_model.specs.declared.event.OtherNode.{OtherNode}
 use Rattle.trace_model.specs.declared.event.StopEvent.{StopEvent}
 use Rattle.trace_model.specs.declared.event.StopEvent.TheVariants as stops
 use Rattle.trace_model.specs.declared.without.Setting.{Setting}
@@ -20,6 +21,11 @@ IsThere u cpu = (cpu < 32) × (has u.online cpu ≡ true) ⊎ (32 ≤ cpu) × ((
 abbrev pub CallsHaveTargets : Type 0
 CallsHaveTargets = (u : Setting) (words : LabelWords) (es : List (ℕ × Event)) (t : StateValue) (cpu id to : ℕ) (class : Class) (func info : ℕ)
     → IsTrace u words (es ++ (cpu, event.Call (calls.Queue id to class func info)) ∷ []) t → (to ≢ cpu) × IsThere u to
+
+-- and so is what is no call
+abbrev pub OthersHaveTargets : Type 0
+OthersHaveTargets = (u : Setting) (words : LabelWords) (es : List (ℕ × Event)) (t : StateValue) (cpu to : ℕ) (node : OtherNode)
+    → IsTrace u words (es ++ (cpu, event.Call (calls.QueueOther to node)) ∷ []) t → (to ≢ cpu) × IsThere u to
 
 -- what a CPU does in a stop: any CPU takes and gives the gate, opens a stop and collects its result
 abbrev pub is_inside : StopEvent → Bool

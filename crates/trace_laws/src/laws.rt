@@ -3,6 +3,7 @@
 
 ghost use Rattle.trace_laws.specs.Drained.{DrainedEquals};
 ghost use Rattle.trace_laws.specs.LawfulLabels.{LabelsAreLawful, ReadsAreLawful};
+ghost use Rattle.trace_laws.specs.LostQueues.{QueuesAreNotLost};
 ghost use Rattle.trace_laws.specs.Places.{InOnePlace};
 ghost use Rattle.trace_laws.specs.OpenStops.{GateIsOfOne, StopsOpenOnce};
 ghost use Rattle.trace_laws.specs.StopEvents.{FunctionsRunAtRun, PatchesStoreAtRun};
@@ -10,15 +11,15 @@ ghost use Rattle.trace_laws.specs.AcceptedTexts.{AcceptedAreTraces};
 ghost use Rattle.trace_laws.specs.Traces.{BeginInOrder, BeginOnce, CountsAre, EndOnce, OfEachTrace, IsTrace};
 ghost use Rattle.trace_laws.specs.ReadVersions.{StopsAreNumbered, UnknownIsAsync};
 ghost use Rattle.trace_laws.specs.RecordTurns.{RecordsTakeTurns};
-ghost use Rattle.trace_laws.specs.Targets.{CallsHaveTargets, StopsAreLow, StopsAreThere};
+ghost use Rattle.trace_laws.specs.Targets.{CallsHaveTargets, OthersHaveTargets, StopsAreLow, StopsAreThere};
 ghost use Rattle.trace_model.specs.declared.event.Event.{Event};
 ghost use Rattle.trace_model.specs.declared.without.Setting.{Setting};
 ghost use Rattle.trace_model.specs.State.{StateValue};
 ghost use Rattle.smp_labels.specs.declared.words.LabelWords.{LabelWords};
 ghost use Rattle.std.specs.Prelude.{ℕ, List};
 
-/// A text that the judge accepts is a trace, to which the laws below apply: the lines behind its head tell events that lead to the
-/// state of the verdict, and its labels are lawful at first.
+/// A text that the judge accepts is a trace, to which the laws below apply: the lines behind its head tell events, each of a CPU below
+/// 512, that lead to the state of the verdict, and its labels are lawful at first.
 pub fn accepted_texts_are_traces()
     ensures { AcceptedAreTraces }
 {}
@@ -31,12 +32,20 @@ pub fn calls_run_once()
     ensures end { OfEachTrace EndOnce }
 {}
 
-/// A call is queued for another CPU that is online. What a CPU does in a stop is of the CPUs below 32, and the stop that is opened, entered
-/// or collected is one of the 64.
+/// A call, or what shares its queue, is queued for another CPU that is online. What a CPU does in a stop is of the CPUs below 32, and the
+/// stop that is opened, entered or collected is one of the 64.
 pub fn calls_have_targets()
     ensures targets { CallsHaveTargets }
+    ensures others { OthersHaveTargets }
     ensures stops { StopsAreLow }
     ensures numbers { StopsAreThere }
+{}
+
+/// Where the order of queues is told, a CPU's queue is not empty exactly where something, a call or what shares its queue, has
+/// joined it since the CPU's last `take`. Wherever it is not empty, the CPU has accepted an interrupt, one is pending for it, or a
+/// CPU owes it one. The events are of CPUs below 512.
+pub fn queues_are_not_lost()
+    ensures { QueuesAreNotLost }
 {}
 
 /// Calls begin in the order of the queues that a CPU takes: at each `take` the calls that were queued since the one before,

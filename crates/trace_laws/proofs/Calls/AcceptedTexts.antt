@@ -1,16 +1,20 @@
 -- A text that is accepted is a trace.
-use Rattle.trace_laws.proofs.Names.{AreLabels, Bool, CursorValue, EarlyEnd, Entry, Err, HaveKinds, Labels, Line, List, Ok, Result, StateValue, [], ap, arith}
-use Rattle.trace_laws.proofs.Names.{cases_lt, cpus_at, entry_at, entry_at-word, entry_word, false, fields_of, first_site, get_or, get_or-replicate, get_or_past}
-use Rattle.trace_laws.proofs.Names.{head_of, head_with, if◌then◌else◌, inl, inr, is_labels, is_on, kind_of, kind_word, labels_at, length, length-append}
-use Rattle.trace_laws.proofs.Names.{length-map, length-replicate, lines_of, ltb-false, map, nat_lt, no_labels, replicate, setting_with, slice_index, subst, sym}
-use Rattle.trace_laws.proofs.Names.{table_of, titled, true, used_after, whole_labels, without_at, words_of, ℕ, ◌++◌, ◌-◌, ◌>>=◌, ◌∙◌, ◌∷◌, ◌≡◌, ◌≤◌}
+use Rattle.trace_laws.proofs.Names.{AllByRecursion, AreLabels, Bool, Cause, CursorValue, EarlyEnd, Entry, Err, Event, HaveKinds, Labels, Line, List, None, Ok}
+use Rattle.trace_laws.proofs.Names.{Option, Result, Setting, Some, StateValue, [], and_parts, ap, arith, cases_lt, cpus_at, entry_at, entry_at-word}
+use Rattle.trace_laws.proofs.Names.{entry_word, false, fields_of, first_site, get_or, get_or-replicate, get_or_past, head_of, head_with, if◌then◌else◌, inl}
+use Rattle.trace_laws.proofs.Names.{inr, is_labels, is_on, is_online, kind_of, kind_word, labels_at, le-ltb, length, length-append, length-map}
+use Rattle.trace_laws.proofs.Names.{length-replicate, lines_of, ltb-false, ltb-true, map, nat_lt, no_labels, refl, replicate, setting_with, slice_index, subst}
+use Rattle.trace_laws.proofs.Names.{sym, table_of, titled, true, used_after, whole_labels, without_at, words_of, ℕ, ◌++◌, ◌+◌, ◌-◌, ◌<◌, ◌>>=◌, ◌∙◌, ◌∷◌, ◌≡◌}
+use Rattle.trace_laws.proofs.Names.{◌≤◌}
 use Rattle.std.proofs.{lemmas.List.get_or-append_right, lemmas.List.get_or-map, lemmas.List.get_or_append_left}
-use Rattle.smp_mask.specs.declared.error.Cause.TheVariants.{Word}
+use Rattle.smp_mask.specs.declared.error.Cause.TheVariants.{Range, Word}
 use Rattle.smp_labels.specs.Law.{site_word}
 use Rattle.smp_script.specs.Labels.{items_of, labels_in, labels_of}
-use Rattle.smp_script.specs.{Commands.are_whole}
+use Rattle.smp_script.specs.{Commands.are_whole, Fields.word32}
 use Rattle.trace_judge.proofs.Meaning.{is_meant}
-use Rattle.trace_judge.specs.{Head.HeadValue, Head.behind, Head.labels_from, Judged.at_line, Runs.MeansWith}
+use Rattle.trace_judge.specs.{Head.HeadValue, Head.behind, Head.labels_from, Judged.at_line, Judged.event_on, Judged.is_comment, Reading.event_of}
+use Rattle.trace_judge.specs.{Reading.is_low, Reading.named_of, Reading.numbered, Reading.online_of, Reading.whole_event, Reading.with_cpu_of}
+use Rattle.trace_judge.specs.{Runs.MeansWith, Runs.Told, Runs.told_by, Runs.with_told}
 use Rattle.trace_laws.specs.{AcceptedTexts.AcceptedAreTraces, AcceptedTexts.IsTraceOf}
 
 -- Labels fit a table.
@@ -119,6 +123,74 @@ head_labels lines h e =
       lawful = words_lawful c.0.0 few.sites;
     })
 
+-- a CPU that is online is below 512
+online_below : (u : Setting) (c : ℕ) → is_online u c ≡ true → c < 512
+online_below u c is = elim (cases_lt c 32) [
+  | inl low ↦ omega (arith, low)
+  | inr high ↦ ltb-true c 512 (and_parts (nat_lt c u.cpus) (nat_lt c 512) (rw (le-ltb c 32 high) at is)).1
+]
+
+cpu_below : (u : Setting) (cpu : List ℕ) (c : ℕ) → online_of u cpu ≡ Ok c → c < 512
+cpu_below u cpu c e =
+    let a = both (word32 cpu) (λ w. if is_online u w then Ok w else Err Range) c e in
+    let p = pick (is_online u a.0) (Ok a.0) Range c a.1.1 in
+    subst (λ (x : ℕ). x < 512) (ok_is a.0 c p.1) (online_below u a.0 p.0)
+
+-- so is the CPU of an event
+with_cpu_below : (u : Setting) (cpu : List ℕ) (read : Result Event Cause) (e : ℕ × Event) → with_cpu_of u cpu read ≡ Ok e → e.0 < 512
+with_cpu_below u cpu read e made =
+    let last = λ (c : ℕ) (event : Event).
+    let r : Result (ℕ × Event) Cause = if is_low c event then Ok (c, numbered u.is_third c event) else Err Range in r in
+    let a = both (online_of u cpu) (λ c. read >>= last c) e made in
+    let b = both read (last a.0) e a.1.1 in
+    let found : ℕ × Event = (a.0, numbered u.is_third a.0 b.0) in
+    let p = pick (is_low a.0 b.0) (Ok found) Range e b.1.1 in
+    subst (λ (x : ℕ × Event). x.0 < 512) (ok_is found e p.1) (cpu_below u cpu a.0 a.1.0)
+
+event_below : (u : Setting) (fields : List (List ℕ)) (e : ℕ × Event) → event_of u fields ≡ Ok e → e.0 < 512
+event_below u (cpu ∷ name ∷ arguments) e made =
+    let a = both (named_of u name arguments) (with_cpu_of u cpu) e made in
+    with_cpu_below u cpu a.0 e a.1.1
+event_below u _ e made = absurd cc
+
+whole_below : (u : Setting) (fields : List (List ℕ)) (e : ℕ × Event) → whole_event u fields ≡ Ok e → e.0 < 512
+whole_below u fields e made = event_below u fields e (pick (are_whole fields) (event_of u fields) Word e made).1
+
+-- events of CPUs below 512
+abbrev AreBelow : List (ℕ × Event) → Type 0
+AreBelow events = AllByRecursion (λ e. e.0 < 512) events
+
+-- they stay so with what one more line tells
+tells_below : (is : Bool) (n : ℕ) (read : Result (ℕ × Event) Cause) (told : Option (ℕ × Event)) (rest : Told)
+    → ((e : ℕ × Event) → read ≡ Ok e → e.0 < 512) → (if is then Ok None else (at_line n read >>= λ event. Ok (Some event))) ≡ Ok told
+    → AreBelow rest.events → AreBelow (with_told told rest).events
+tells_below true n read told rest small e low = subst (λ (x : Option (ℕ × Event)). AreBelow (with_told x rest).events) (ok_is None told e) low
+tells_below false n (Ok event) told rest small e low =
+    subst (λ (x : Option (ℕ × Event)). AreBelow (with_told x rest).events) (ok_is (Some event) told e) (small event refl, low)
+tells_below false n (Err why) told rest small e low = absurd cc
+
+line_below : (u : Setting) (n : ℕ) (text : List ℕ) (told : Option (ℕ × Event)) (rest : Told) → event_on u n text ≡ Ok told → AreBelow rest.events
+    → AreBelow (with_told told rest).events
+unfolding event_on
+line_below u n text told rest e low =
+    tells_below (is_comment text) n (whole_event u (fields_of text)) told rest (whole_below u (fields_of text)) e low
+
+-- the events that lines tell
+lines_below : (u : Setting) (n used : ℕ) (lines : List Line) (told : Told) → told_by u n used lines ≡ Ok told → AreBelow told.events
+unfolding told_by
+lines_below u n used [] told e =
+    let none : Told = record { events = []; used = used } in
+    subst (λ (x : Told). AreBelow x.events) (ok_is none told e) tt
+lines_below u n used (l ∷ ls) told e =
+    let last = λ (here : Option (ℕ × Event)) (rest : Told). let r : Result Told EarlyEnd = Ok (with_told here rest) in r in
+    let next = λ (more : ℕ) (here : Option (ℕ × Event)). told_by u (n + 1) more ls >>= last here in
+    let a = both (used_after n used l) (λ more. event_on u n l.text >>= next more) told e in
+    let b = both (event_on u n l.text) (next a.0) told a.1.1 in
+    let c = both (told_by u (n + 1) a.0 ls) (last b.0) told b.1.1 in
+    let low = lines_below u (n + 1) a.0 ls c.0 c.1.0 in
+    subst (λ (x : Told). AreBelow x.events) (ok_is (with_told b.0 c.0) told c.1.1) (line_below u n l.text b.0 c.0 b.1.0 low)
+
+-- what a text tells
 run_of : (text : List ℕ) (count : ℕ) (t : StateValue) (head : Result HeadValue EarlyEnd) → head_of (lines_of text) ≡ head → MeansWith head (Ok (count, t)) →
     IsTraceOf text count t
 run_of text count t (Ok h) e m = record {
@@ -127,6 +199,7 @@ run_of text count t (Ok h) e m = record {
   told = m.told;
   told_is = m.told_is;
   count_is = (let c = m.counted in omega arith);
+  below = lines_below h.setting h.cursor.number h.cursor.used h.cursor.lines m.told m.told_is;
   labels = head_labels (lines_of text) h e;
   trace = m.run;
 }

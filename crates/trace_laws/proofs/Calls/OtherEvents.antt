@@ -14,31 +14,44 @@ use Rattle.trace_laws.proofs.Calls.MadeSteps.{both_made, failed, low_event, pass
 use Rattle.trace_laws.proofs.{Calls.CpuSteps.SameCalls, Calls.StateSteps.cpu_changed, Calls.StateSteps.cpu_kept, Calls.StateSteps.same_calls}
 use Rattle.smp_words.specs.declared.phase.TheConstants.{DISABLE_IRQ, RUN, OVER}
 
--- The calls of each CPU, and where each record is, are as before.
+-- what shares the queue of a CPU, its interrupts, and those that it owes are as before
+pub record SameNodes (a b : CpuState) : Type 0 where
+  pub others : b.others ≡ a.others
+  pub pending : b.pending ≡ a.pending
+  pub accepted : b.accepted ≡ a.accepted
+  pub owes : b.owes ≡ a.owes
+
+same_nodes : (a : CpuState) → SameNodes a a
+same_nodes a = record { others = refl; pending = refl; accepted = refl; owes = refl }
+
+-- The calls and the interrupts of each CPU, and where each record is, are as before.
 pub record KeepsCalls (s t : StateValue) : Type 0 where
   pub setting_is : t.setting ≡ s.setting
   pub cpus_are : length t.cpus ≡ length s.cpus
   pub places_are : t.places ≡ s.places
   pub calls : (cpu : ℕ) → cpu < length s.cpus → SameCalls (cpu_at s cpu) (cpu_at t cpu)
+  pub nodes : (cpu : ℕ) → cpu < length s.cpus → SameNodes (cpu_at s cpu) (cpu_at t cpu)
 
 pub keeps_same : (s t : StateValue) → t.setting ≡ s.setting → t.cpus ≡ s.cpus → t.places ≡ s.places → KeepsCalls s t
-keeps_same s t h1 h2 h3 = search (same_calls, arith)
+keeps_same s t h1 h2 h3 = search (same_calls, same_nodes, arith)
 
 pub keeps_then : (s m t : StateValue) → KeepsCalls s m → KeepsCalls m t → KeepsCalls s t
 keeps_then s m t h1 h2 = search arith
 
 -- a CPU with the calls that it had
-pub keeps_cpu : (actor : ℕ) (s : StateValue) (c : CpuState) → SameCalls (cpu_at s actor) c → KeepsCalls s (with_cpu actor s c)
-keeps_cpu actor s c h1 = search (length-set, cases_eq, cpu_changed, cpu_kept, same_calls, arith)
+pub keeps_cpu : (actor : ℕ) (s : StateValue) (c : CpuState) → SameCalls (cpu_at s actor) c → SameNodes (cpu_at s actor) c → KeepsCalls s (with_cpu actor s c)
+keeps_cpu actor s c h1 h2 = search (length-set, cases_eq, cpu_changed, cpu_kept, same_calls, same_nodes, arith)
 
 keeps_end : (s t u : StateValue) → t ≡ u → KeepsCalls s t → KeepsCalls s u
 keeps_end s t u same k = subst (λ (x : StateValue). KeepsCalls s x) same k
 
 keeps_irq : (cpu : ℕ) (on : Bool) (s : StateValue) → KeepsCalls s (with_irq cpu on s)
-keeps_irq cpu on s = keeps_cpu cpu s (with_interrupts on (cpu_at s cpu)) (record { queue = refl; batch = refl; current = refl; ran = refl; queued = refl })
+keeps_irq cpu on s = keeps_cpu cpu s (with_interrupts on (cpu_at s cpu))
+    (record { queue = refl; batch = refl; current = refl; ran = refl; queued = refl }) (record { others = refl; pending = refl; accepted = refl; owes = refl })
 
 keeps_inside : (cpu : ℕ) (number : Option ℕ) (s : StateValue) → KeepsCalls s (with_inside cpu number s)
-keeps_inside cpu number s = keeps_cpu cpu s (in_stop number (cpu_at s cpu)) (record { queue = refl; batch = refl; current = refl; ran = refl; queued = refl })
+keeps_inside cpu number s = keeps_cpu cpu s (in_stop number (cpu_at s cpu))
+    (record { queue = refl; batch = refl; current = refl; ran = refl; queued = refl }) (record { others = refl; pending = refl; accepted = refl; owes = refl })
 
 keeps_refl : (s : StateValue) → KeepsCalls s s
 keeps_refl s = keeps_same s s refl refl refl

@@ -1,18 +1,19 @@
--- A call is queued for another CPU that is online, what a CPU does in a stop is of a CPU below 32, and the number of a stop is below 64.
-use Rattle.trace_laws.proofs.Names.{Class, Reason, Result, Setting, StateValue, StopEvent, and_parts, arith, collect_by, collected, enter_by, enter_from}
-use Rattle.trace_laws.proofs.Names.{eq-eqb, inside_goes, is_online, lt-ltb, ltb-true, on_stop, open_by, open_closed, queue_by, stop_at, stop_goes, stop_of}
-use Rattle.trace_laws.proofs.Names.{◌&&◌, ◌<◌}
-use Rattle.std.proofs.Common.{◌≡◌, ◌≢◌, ℕ, ◌==◌, nat_lt, Bool, true, false, Ok, refl, sym, ap}
+-- What joins a queue goes to another CPU that is online, what a CPU does in a stop is of a CPU below 32, and the number of a stop is below 64.
+use Rattle.trace_laws.proofs.Names.{Call, Class, Err, OtherNode, Reason, Result, Setting, StateValue, StopEvent, and_parts, arith, call_goes, collect_by}
+use Rattle.trace_laws.proofs.Names.{collected, enter_by, enter_from, eq-eqb, freed, goes, if◌then◌else◌, inside_goes, is_online, joined, lt-ltb, ltb-true}
+use Rattle.trace_laws.proofs.Names.{on_stop, open_by, open_closed, other_by, queue_by, stop_at, stop_goes, stop_of, ◌&&◌, ◌<◌, ◌>>=◌}
+use Rattle.std.proofs.Common.{◌≡◌, ◌≢◌, ℕ, ◌==◌, nat_lt, true, Ok, sym, ap}
 use Rattle.std.proofs.Common.{◌∙◌, inl, inr}
 use Rattle.std.proofs.lemmas.Bool.{cases_lt, le-ltb}
 use Rattle.trace_model.specs.declared.event.CallEvent.TheVariants as calls
 use Rattle.trace_model.specs.declared.event.Event.TheVariants as event
 use Rattle.trace_model.specs.declared.event.StopEvent.TheVariants as stops
 use Rattle.trace_model.specs.declared.reason.Reason.TheVariants as reason
+use Rattle.trace_model.specs.Calls.{other_joined}
 use Rattle.trace_model.specs.Opened.{opening}
-use Rattle.trace_laws.proofs.Calls.MadeSteps.{low_event, passed}
+use Rattle.trace_laws.proofs.Calls.MadeSteps.{failed, low_event, passed}
 use Rattle.trace_laws.proofs.Stops.AtRun.{runs_last, setting_at_first, setting_runs}
-use Rattle.trace_laws.specs.Targets.{CallsHaveTargets, IsThere, NamesStop, StopsAreLow, StopsAreThere, is_inside}
+use Rattle.trace_laws.specs.Targets.{CallsHaveTargets, IsThere, NamesStop, OthersHaveTargets, StopsAreLow, StopsAreThere, is_inside}
 
 is_there : (u : Setting) (cpu : ℕ) → is_online u cpu ≡ true → IsThere u cpu
 is_there u cpu is = elim (cases_lt cpu 32) [
@@ -22,21 +23,43 @@ is_there u cpu is = elim (cases_lt cpu 32) [
       inr (high, (ltb-true cpu u.cpus both.0, ltb-true cpu 512 both.1))
 ]
 
--- a call joins a queue only so
+-- what joins a queue only so
+pub joined_so : (s t : StateValue) (cpu to : ℕ) (made : Result StateValue Reason)
+    → (if is_online s.setting to then (if to == cpu then Err (reason.IsCaller to) else made) else Err (reason.NotOnline to)) ≡ Ok t
+    → (to ≢ cpu) × ((is_online s.setting to ≡ true) × (made ≡ Ok t))
+joined_so s t cpu to made e =
+    let p = passed (is_online s.setting to) (if to == cpu then Err (reason.IsCaller to) else made) (reason.NotOnline to) t e in
+    let q = failed (to == cpu) made (reason.IsCaller to) t p.1 in
+    ((λ same. let f = eq-eqb to cpu same in cc), (p.0, q.1))
+
+-- a call
 queued_so : (s t : StateValue) (cpu id to : ℕ) (class : Class) (func info : ℕ)
     → queue_by (record { source = cpu; id = id; class = class; func = func; info = info }) to s ≡ Ok t → (to ≢ cpu) × (is_online s.setting to ≡ true)
 unfolding queue_by
-queued_so s t cpu id to class func info made = go (is_online s.setting to) refl (to == cpu) refl
-  where
-    go : (a : Bool) → is_online s.setting to ≡ a → (b : Bool) → (to == cpu) ≡ b → (to ≢ cpu) × (is_online s.setting to ≡ true)
-    go false a b e = absurd (let f = rw a at made in cc)
-    go true a true e = absurd (let f = rw (a, e) at made in cc)
-    go true a false e = ((λ same. let f = eq-eqb to cpu same in cc), a)
+queued_so s t cpu id to class func info made =
+    let call : Call = record { source = cpu; id = id; class = class; func = func; info = info } in
+    let so = joined_so s t cpu to (freed id s >>= λ m. Ok (joined call to m)) made in
+    (so.0, so.1.0)
 
 pub calls_have_targets : CallsHaveTargets
 calls_have_targets u words es t cpu id to class func info run =
     let m = runs_last es (cpu, event.Call (calls.Queue id to class func info)) (opening u words) t run in
     let q = queued_so m.0 t cpu id to class func info m.1.1 in
+    let set : m.0.setting ≡ u = setting_runs es (opening u words) m.0 m.1.0 ∙ setting_at_first u words in
+    (q.0, is_there u to (ap (λ v. is_online v to) (sym set) ∙ q.1))
+
+-- and what is no call
+other_so : (s t : StateValue) (cpu to : ℕ) (node : OtherNode) → goes cpu (event.Call (calls.QueueOther to node)) s ≡ Ok t → (to ≢ cpu) ×
+    (is_online s.setting to ≡ true)
+unfolding call_goes other_by
+other_so s t cpu to node made =
+    let so = joined_so s t cpu to (Ok (if s.setting.without.order then s else other_joined cpu to s)) made in
+    (so.0, so.1.0)
+
+pub others_have_targets : OthersHaveTargets
+others_have_targets u words es t cpu to node run =
+    let m = runs_last es (cpu, event.Call (calls.QueueOther to node)) (opening u words) t run in
+    let q = other_so m.0 t cpu to node m.1.1 in
     let set : m.0.setting ≡ u = setting_runs es (opening u words) m.0 m.1.0 ∙ setting_at_first u words in
     (q.0, is_there u to (ap (λ v. is_online v to) (sym set) ∙ q.1))
 

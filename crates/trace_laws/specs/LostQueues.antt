@@ -1,0 +1,41 @@
+-- A queue that is not empty is not lost.
+use Rattle.std.specs.Prelude.{◌≡◌, ◌⊎◌, ℕ, ◌<◌, Bool, true, false, ◌||◌, ◌==◌, if◌then◌else◌, List, [], ◌∷◌}
+use Rattle.std.specs.List.{AllByRecursion}
+use Rattle.smp_labels.specs.declared.words.LabelWords.{LabelWords}
+use Rattle.trace_model.specs.declared.event.CallEvent.TheVariants as calls
+use Rattle.trace_model.specs.declared.event.Event.{Event}
+use Rattle.trace_model.specs.declared.event.Event.TheVariants as event
+use Rattle.trace_model.specs.declared.without.Setting.{Setting}
+use Rattle.trace_model.specs.Ending.{has_nodes, owes}
+use Rattle.trace_model.specs.State.{StateValue, cpu_at}
+use Rattle.trace_laws.specs.CallEvents.{takes_now}
+use Rattle.trace_laws.specs.Traces.{IsTrace}
+
+-- something joins the queue of a CPU: a call, or what shares its queue
+abbrev pub joins_now : ℕ → ℕ × Event → Bool
+joins_now cpu (source, event.Call (calls.Queue id to class func info)) = to == cpu
+joins_now cpu (source, event.Call (calls.QueueOther to node)) = to == cpu
+joins_now cpu _ = false
+
+-- whether something is in the queue after one more event: a `take` empties it
+abbrev pub filled_next : ℕ → Bool → ℕ × Event → Bool
+filled_next cpu filled e = if takes_now cpu e then false else (joins_now cpu e || filled)
+
+-- whether something has joined the queue since its last `take`
+unfoldable pub filled_from : ℕ → Bool → List (ℕ × Event) → Bool
+filled_from cpu filled [] = filled
+filled_from cpu filled (e ∷ es) = filled_from cpu (filled_next cpu filled e) es
+
+-- a CPU has accepted an interrupt, one is pending for it, or a CPU owes it one
+abbrev pub IsSeenTo : StateValue → ℕ → Type 0
+IsSeenTo t cpu = ((cpu_at t cpu).accepted ≡ true) ⊎ (((cpu_at t cpu).pending ≡ true) ⊎ ((source : ℕ) × ((source < 512) × (owes t cpu source ≡ true))))
+
+-- A CPU's queue is not empty exactly where something has joined it since its last `take`, and it is seen to then.
+pub record QueueIsNotLost (u : Setting) (es : List (ℕ × Event)) (t : StateValue) (cpu : ℕ) : Type 0 where
+  pub filled : u.without.order ≡ false → has_nodes (cpu_at t cpu) ≡ filled_from cpu false es
+  pub seen_to : has_nodes (cpu_at t cpu) ≡ true → IsSeenTo t cpu
+
+-- where each event is of one of the 512 CPUs
+abbrev pub QueuesAreNotLost : Type 0
+QueuesAreNotLost = (u : Setting) (words : LabelWords) (es : List (ℕ × Event)) (t : StateValue) → IsTrace u words es t →
+    AllByRecursion (λ e. e.0 < 512) es → (cpu : ℕ) → cpu < 512 → QueueIsNotLost u es t cpu
