@@ -45,8 +45,8 @@ pub use Rattle.trace_model.specs.Calls.{accept_by, entered_by, freed_if, idle_by
 pub use Rattle.trace_model.specs.Cpu.{CpuState, accepted, after_end, at_call, begun, begun_any, begun_at, begun_front, begun_loose, begun_with, call_at}
 pub use Rattle.trace_model.specs.Cpu.{counted, ended, ended_at, ended_with, fresh_cpu, front_of, handles_nothing, in_stop, interrupted, is_async, is_class}
 pub use Rattle.trace_model.specs.Cpu.{is_bare, is_locked, is_of, is_sync, left_batch, loose_with, may_take, not_over, noted, of_class, order, over_with, owing}
-pub use Rattle.trace_model.specs.Cpu.{place_in, pushed, pushed_other, quiet_with, rest_of, runs_locked, sent, slipped_any, slipped_at, slipped_from_batch, slipped_from_queue}
-pub use Rattle.trace_model.specs.Cpu.{slipped_front, taken, unlocked, unlocked_front, unlocked_running, unlocked_with, with_interrupts}
+pub use Rattle.trace_model.specs.Cpu.{place_in, pushed, pushed_other, quiet_with, rest_of, runs_locked, sent, slipped_any, slipped_at, slipped_from_batch}
+pub use Rattle.trace_model.specs.Cpu.{slipped_from_queue, slipped_front, taken, unlocked, unlocked_front, unlocked_running, unlocked_with, with_interrupts}
 pub use Rattle.trace_model.specs.Labels.{count_at, entry_of, is_site, key_number, may_nudge, nudged, nudged_count, patch_for, patch_or, patch_to, popped}
 pub use Rattle.trace_model.specs.Labels.{site_at, site_from, site_front, site_store, stored, to_be}
 unfoldable pub use Rattle.trace_model.specs.Opened.{opening, places_free}

@@ -6,7 +6,8 @@ use Rattle.trace_laws.proofs.Names.{waiting, ℕ, ◌++◌, ◌+◌, ◌<◌, �
 use Rattle.std.proofs.lemmas.List.Sums.{sum_by-append}
 use Rattle.trace_model.specs.declared.event.CallEvent.TheVariants as calls
 use Rattle.trace_model.specs.declared.event.Event.TheVariants as event
-use Rattle.trace_laws.proofs.Calls.CallEvents.{EventShows, accept_shows, begin_shows, end_shows, other_shows, queue_shows, quiet_event, send_shows, take_shows, unlock_shows}
+use Rattle.trace_laws.proofs.Calls.CallEvents.{EventShows, accept_shows, begin_shows, end_shows, other_shows, queue_shows, quiet_event, send_shows}
+use Rattle.trace_laws.proofs.Calls.CallEvents.{take_shows, unlock_shows}
 use Rattle.trace_laws.proofs.{Calls.CpuSteps.shows_same, Calls.MadeSteps.both_made, Calls.MadeSteps.low_event, Calls.OtherEvents.KeepsCalls}
 use Rattle.trace_laws.proofs.{Calls.OtherEvents.label_keeps_calls, Calls.OtherEvents.stop_keeps_calls, Calls.StateSteps.GoesQuietly}
 use Rattle.trace_laws.proofs.{Calls.StateSteps.freed_goes, Calls.StateSteps.goes_same, Calls.TwoSteps.joined, Calls.TwoSteps.joined_once}
