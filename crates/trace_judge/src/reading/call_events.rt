@@ -1,8 +1,8 @@
 //! Events of calls, as lines tell them.
 
 ghost use Rattle.std.specs.Prelude.{◌≡◌, map};
-ghost use Rattle.trace_judge.specs.Reading.{begin_of, call_line, class_in, end_of, free_of, may_be_unknown, node_of, other_line, other_of, queue_line, queue_of};
-ghost use Rattle.trace_judge.specs.Reading.{send_of, unlock_of};
+ghost use Rattle.trace_judge.specs.Reading.{begin_of, call_line, class_in, end_of, free_of, may_be_unknown, node_of, other_line, other_of};
+ghost use Rattle.trace_judge.specs.Reading.{queue_line, queue_of, send_of, unlock_of};
 
 use smp_mask::Cause;
 use smp_script::decimal::{read_u16, read_u32, read_u64};
