@@ -30,12 +30,13 @@ filled_from cpu filled (e ∷ es) = filled_from cpu (filled_next cpu filled e) e
 abbrev pub IsSeenTo : StateValue → ℕ → Type 0
 IsSeenTo t cpu = ((cpu_at t cpu).accepted ≡ true) ⊎ (((cpu_at t cpu).pending ≡ true) ⊎ ((source : ℕ) × ((source < 512) × (owes t cpu source ≡ true))))
 
--- A CPU's queue is not empty exactly where something has joined it since its last `take`, and it is seen to then.
+-- Where the order is told, a CPU's queue is not empty exactly where something has joined it since its last `take`. A queue that is not
+-- empty is seen to.
 pub record QueueIsNotLost (u : Setting) (es : List (ℕ × Event)) (t : StateValue) (cpu : ℕ) : Type 0 where
   pub filled : u.without.order ≡ false → has_nodes (cpu_at t cpu) ≡ filled_from cpu false es
   pub seen_to : has_nodes (cpu_at t cpu) ≡ true → IsSeenTo t cpu
 
--- where each event is of one of the 512 CPUs
+-- no queue is lost, where each event is of one of the 512 CPUs
 abbrev pub QueuesAreNotLost : Type 0
 QueuesAreNotLost = (u : Setting) (words : LabelWords) (es : List (ℕ × Event)) (t : StateValue) → IsTrace u words es t →
     AllByRecursion (λ e. e.0 < 512) es → (cpu : ℕ) → cpu < 512 → QueueIsNotLost u es t cpu

@@ -9,7 +9,7 @@ ghost use Rattle.trace_laws.specs.OpenStops.{GateIsOfOne, StopsOpenOnce};
 ghost use Rattle.trace_laws.specs.StopEvents.{FunctionsRunAtRun, PatchesStoreAtRun};
 ghost use Rattle.trace_laws.specs.AcceptedTexts.{AcceptedAreTraces};
 ghost use Rattle.trace_laws.specs.Traces.{BeginInOrder, BeginOnce, CountsAre, EndOnce, OfEachTrace, IsTrace};
-ghost use Rattle.trace_laws.specs.ReadVersions.{StopsAreNumbered, UnknownIsAsync};
+ghost use Rattle.trace_laws.specs.ReadVersions.{OthersAreThird, StopsAreNumbered, UnknownIsAsync};
 ghost use Rattle.trace_laws.specs.RecordTurns.{RecordsTakeTurns};
 ghost use Rattle.trace_laws.specs.Targets.{CallsHaveTargets, OthersHaveTargets, StopsAreLow, StopsAreThere};
 ghost use Rattle.trace_model.specs.declared.event.Event.{Event};
@@ -68,10 +68,11 @@ pub fn records_are_in_one_place()
     ensures place { (u : Setting) (words : LabelWords) (es : List (ℕ × Event)) (t : StateValue) → IsTrace u words es t → InOnePlace t }
 {}
 
-/// In version 3 the class of a call may be unknown where neither the order nor unlocks are told, and is read as ASYNC. Before
-/// version 3 a stop has the number of the CPU that opens or collects it.
+/// In version 3 the class of a call may be unknown where neither the order nor unlocks are told, and is read as ASYNC. A wake and irq
+/// work may join a queue. Before version 3 a stop has the number of the CPU that opens or collects it.
 pub fn versions_differ()
     ensures unknown { UnknownIsAsync }
+    ensures others { OthersAreThird }
     ensures numbers { StopsAreNumbered }
 {}
 

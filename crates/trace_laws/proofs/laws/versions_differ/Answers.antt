@@ -9,6 +9,15 @@ returns-clause-unknown c = record {
   unlocked = λ u unlocks. search arith;
 }
 
+pub returns-clause-others : goal.returns-clause-others
+returns-clause-others c = record {
+  wake = λ u to d third is. rw (third, is) refl;
+  irq_work = λ u to d third is. rw (third, is) refl;
+  second = λ u to word third. rw third refl;
+  wake_written = λ d. refl;
+  irq_work_written = λ d. refl;
+}
+
 pub returns-clause-numbers : goal.returns-clause-numbers
 returns-clause-numbers c = record {
   opened = λ cpu number task. refl;
