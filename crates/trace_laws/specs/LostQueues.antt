@@ -40,3 +40,28 @@ pub record QueueIsNotLost (u : Setting) (es : List (ℕ × Event)) (t : StateVal
 abbrev pub QueuesAreNotLost : Type 0
 QueuesAreNotLost = (u : Setting) (words : LabelWords) (es : List (ℕ × Event)) (t : StateValue) → IsTrace u words es t →
     AllByRecursion (λ e. e.0 < 512) es → (cpu : ℕ) → cpu < 512 → QueueIsNotLost u es t cpu
+
+-- whether an interrupt is pending for a CPU after one more event: a `send` to it makes it so, its `accept` takes it
+abbrev pub pending_next : ℕ → Bool → ℕ × Event → Bool
+pending_next cpu pending (actor, event.Call (calls.Send to)) = if to == cpu then true else pending
+pending_next cpu pending (actor, event.Call calls.Accept) = if actor == cpu then false else pending
+pending_next cpu pending _ = pending
+
+-- whether it has accepted one: by its `accept`, until its `take`
+abbrev pub accepted_next : ℕ → Bool → ℕ × Event → Bool
+accepted_next cpu accepted (actor, event.Call calls.Accept) = if actor == cpu then true else accepted
+accepted_next cpu accepted (actor, event.Call calls.Take) = if actor == cpu then false else accepted
+accepted_next cpu accepted _ = accepted
+
+unfoldable pub pending_from : ℕ → Bool → List (ℕ × Event) → Bool
+pending_from cpu pending [] = pending
+pending_from cpu pending (e ∷ es) = pending_from cpu (pending_next cpu pending e) es
+
+unfoldable pub accepted_from : ℕ → Bool → List (ℕ × Event) → Bool
+accepted_from cpu accepted [] = accepted
+accepted_from cpu accepted (e ∷ es) = accepted_from cpu (accepted_next cpu accepted e) es
+
+-- An interrupt is pending for a CPU, and the CPU has accepted one, just where the events say so.
+pub record InterruptIsTold (u : Setting) (es : List (ℕ × Event)) (t : StateValue) (cpu : ℕ) : Type 0 where
+  pub pending : (cpu_at t cpu).pending ≡ pending_from cpu false es
+  pub accepted : (cpu_at t cpu).accepted ≡ accepted_from cpu false es

@@ -26,7 +26,11 @@ use Rattle.trace_laws.proofs.Calls.ShownByTraces.{cpus_at_first, fresh_at}
 use Rattle.trace_laws.proofs.Calls.StateSteps.{cpu_changed, cpu_kept}
 use Rattle.trace_laws.proofs.Calls.Targets.{joined_so}
 use Rattle.trace_laws.proofs.Stops.AtRun.{setting_at_first}
-use Rattle.trace_laws.specs.LostQueues.{IsSeenTo, QueuesAreNotLost, filled_from, filled_next}
+use Rattle.trace_laws.proofs.Calls.CallEvents.{either_state}
+use Rattle.trace_laws.proofs.Calls.ShownByRuns.{event_shows}
+use Rattle.trace_laws.specs.LostQueues.{InterruptIsTold, IsSeenTo, QueuesAreNotLost, accepted_from, accepted_next, filled_from, filled_next}
+use Rattle.trace_laws.specs.LostQueues.{pending_from, pending_next}
+use Rattle.trace_laws.specs.Traces.{OfEachTrace}
 
 -- A CPU's queue is empty as before, or where the order is left out has lost a call. Its interrupts, and those that it owes, are as before.
 record Holds (order : Bool) (a b : CpuState) : Type 0 where
@@ -520,3 +524,175 @@ pub queues_are_not_lost : QueuesAreNotLost
 queues_are_not_lost u words es t run all cpu below =
     let k = kept_runs u.without.order false cpu es (opening u words) t (kept_at_first u words cpu) below all run in
     record { filled = k.nodes; seen_to = k.seen_to }
+
+-- a CPU that is put elsewhere, or here
+at_with : (cpu x : ℕ) (s : StateValue) (c : CpuState) (here : Bool) → (x == cpu) ≡ here → cpu < length s.cpus
+    → cpu_at (with_cpu x s c) cpu ≡ (if here then c else cpu_at s cpu)
+at_with cpu x s c true e below =
+    let same : x ≡ cpu = eqb-true x cpu e in
+    subst (λ (o : ℕ). cpu_at (with_cpu o s c) cpu ≡ c) (sym same) (cpu_changed cpu s c below)
+at_with cpu x s c false e below = cpu_kept cpu x s c (λ y. eqb-false x cpu e (sym y))
+
+pending_if : (here : Bool) (a b : CpuState) (x : Bool) → a.pending ≡ x → (if here then a else b).pending ≡ (if here then x else b.pending)
+pending_if true a b x is = is
+pending_if false a b x is = refl
+
+accepted_if : (here : Bool) (a b : CpuState) (x : Bool) → a.accepted ≡ x → (if here then a else b).accepted ≡ (if here then x else b.accepted)
+accepted_if true a b x is = is
+accepted_if false a b x is = refl
+
+takes_pending : (a b : CpuState) → accepted a ≡ Ok b → (b.pending ≡ false) × (b.accepted ≡ true)
+takes_pending a b e = search (passed, both_made, arith)
+
+-- what a CPU has of interrupts is as before
+record SameInterrupts (a b : CpuState) : Type 0 where
+  pending : b.pending ≡ a.pending
+  accepted : b.accepted ≡ a.accepted
+
+interrupts_then : (a b c : CpuState) → SameInterrupts a b → SameInterrupts b c → SameInterrupts a c
+interrupts_then a b c p q = record { pending = q.pending ∙ p.pending; accepted = q.accepted ∙ p.accepted }
+
+interrupts_end : (a : CpuState) (cpu : ℕ) (s t : StateValue) → s ≡ t → SameInterrupts a (cpu_at s cpu) → SameInterrupts a (cpu_at t cpu)
+interrupts_end a cpu s t same p = subst (λ (x : StateValue). SameInterrupts a (cpu_at x cpu)) same p
+
+interrupts_cpu : (cpu x : ℕ) (s : StateValue) (c : CpuState) → cpu < length s.cpus → SameInterrupts (cpu_at s x) c
+    → SameInterrupts (cpu_at s cpu) (cpu_at (with_cpu x s c) cpu)
+interrupts_cpu cpu x s c below same = search (cases_eq, cpu_changed, cpu_kept, arith)
+
+interrupts_two : (cpu to actor : ℕ) (s : StateValue) (c d : CpuState) → cpu < length s.cpus → SameInterrupts (cpu_at s to) c
+    → SameInterrupts (cpu_at (with_cpu to s c) actor) d → SameInterrupts (cpu_at s cpu) (cpu_at (with_cpu actor (with_cpu to s c) d) cpu)
+interrupts_two cpu to actor s c d below p q =
+    let m = with_cpu to s c in
+    let n = with_cpu actor m d in
+    interrupts_then (cpu_at s cpu) (cpu_at m cpu) (cpu_at n cpu) (interrupts_cpu cpu to s c below p)
+    (interrupts_cpu cpu actor m d (rw (length-set s.cpus to c) below) q)
+
+interrupts_kept : (order : Bool) (cpu : ℕ) (s t : StateValue) → cpu < length s.cpus → Keeps order s t → SameInterrupts (cpu_at s cpu) (cpu_at t cpu)
+interrupts_kept order cpu s t below k = let h = k.holds cpu below in record { pending = h.pending; accepted = h.accepted }
+
+interrupts_queue : (cpu source id to : ℕ) (class : Class) (func info : ℕ) (s t : StateValue) → cpu < length s.cpus
+    → queue_by (record { source = source; id = id; class = class; func = func; info = info }) to s ≡ Ok t → SameInterrupts (cpu_at s cpu) (cpu_at t cpu)
+unfolding queue_by
+interrupts_queue cpu source id to class func info s t below e =
+    let call : Call = record { source = source; id = id; class = class; func = func; info = info } in
+    let next = freed id s >>= λ m. Ok (joined call to m) in
+    let so = joined_so s t source to next e in
+    let r = both_made (freed id s) (λ m. Ok (joined call to m)) t so.1.1 in
+    let k = keeps_freed id s r.0 r.1.0 in
+    let c = pushed call (cpu_at r.0 to) in
+    let d = noted to (is_bare (cpu_at r.0 to)) (cpu_at (with_cpu to r.0 c) source) in
+    let n = with_cpu source (with_cpu to r.0 c) d in
+    interrupts_end (cpu_at s cpu) cpu (joined call to r.0) t (cc)
+    (interrupts_then (cpu_at s cpu) (cpu_at r.0 cpu) (cpu_at n cpu) (interrupts_kept s.setting.without.order cpu s r.0 below k)
+    (interrupts_two cpu to source r.0 c d (rw k.cpus_are below) (record { pending = refl; accepted = refl }) (record { pending = refl; accepted = refl })))
+
+interrupts_other : (cpu actor to : ℕ) (s t : StateValue) → cpu < length s.cpus → other_by actor to s ≡ Ok t → SameInterrupts (cpu_at s cpu) (cpu_at t cpu)
+unfolding other_by
+interrupts_other cpu actor to s t below e =
+    let c = pushed_other (cpu_at s to) in
+    let d = owing to (is_bare (cpu_at s to)) (cpu_at (with_cpu to s c) actor) in
+    let n = other_joined actor to s in
+    let x = if s.setting.without.order then s else n in
+    let so = joined_so s t actor to (Ok x) e in
+    let made = so.1.1 in
+    interrupts_end (cpu_at s cpu) cpu x t (cc)
+    (either_state (λ z. SameInterrupts (cpu_at s cpu) (cpu_at z cpu)) s.setting.without.order s n (record { pending = refl; accepted = refl })
+    (interrupts_two cpu to actor s c d below (record { pending = refl; accepted = refl }) (record { pending = refl; accepted = refl })))
+
+-- An event has done this to the interrupts of a CPU.
+record Told (cpu : ℕ) (e : ℕ × Event) (s t : StateValue) : Type 0 where
+  pending : (cpu_at t cpu).pending ≡ pending_next cpu (cpu_at s cpu).pending e
+  accepted : (cpu_at t cpu).accepted ≡ accepted_next cpu (cpu_at s cpu).accepted e
+
+told_end : (cpu : ℕ) (e : ℕ × Event) (s t u : StateValue) → t ≡ u → Told cpu e s t → Told cpu e s u
+told_end cpu e s t u same told = subst (λ (x : StateValue). Told cpu e s x) same told
+
+told_send : (cpu actor to : ℕ) (s t : StateValue) → cpu < length s.cpus → send_by actor to s ≡ Ok t → Told cpu (actor, event.Call (calls.Send to)) s t
+unfolding send_by
+told_send cpu actor to s t below e =
+    let c = interrupted (cpu_at s to) in
+    let m = with_cpu to s c in
+    let d = sent to (cpu_at m actor) in
+    let n = with_cpu actor m d in
+    let p = passed (is_online s.setting to) (Ok n) (reason.NotOnline to) t e in
+    let last = interrupts_cpu cpu actor m d (rw (length-set s.cpus to c) below) (record { pending = refl; accepted = refl }) in
+    let at : cpu_at m cpu ≡ (if to == cpu then c else cpu_at s cpu) = at_with cpu to s c (to == cpu) refl below in
+    let accepted : (cpu_at m cpu).accepted ≡ (cpu_at s cpu).accepted = search (cases_eq, cpu_changed, cpu_kept, arith) in
+    told_end cpu (actor, event.Call (calls.Send to)) s n t (cc) (record {
+      pending = last.pending ∙ ap (λ x. x.pending) at ∙ pending_if (to == cpu) c (cpu_at s cpu) true refl;
+      accepted = last.accepted ∙ accepted;
+    })
+
+told_accept : (cpu actor : ℕ) (s t : StateValue) → cpu < length s.cpus → accept_by actor s ≡ Ok t → Told cpu (actor, event.Call calls.Accept) s t
+told_accept cpu actor s t below e =
+    let m = made_on_cpu actor s t (accepted (cpu_at s actor)) e in
+    let a : (m.0.pending ≡ false) × (m.0.accepted ≡ true) = takes_pending (cpu_at s actor) m.0 m.1.0 in
+    let at : cpu_at (with_cpu actor s m.0) cpu ≡ (if actor == cpu then m.0 else cpu_at s cpu) = at_with cpu actor s m.0 (actor == cpu) refl below in
+    told_end cpu (actor, event.Call calls.Accept) s (with_cpu actor s m.0) t m.1.1 (record {
+      pending = ap (λ x. x.pending) at ∙ pending_if (actor == cpu) m.0 (cpu_at s cpu) false a.0;
+      accepted = ap (λ x. x.accepted) at ∙ accepted_if (actor == cpu) m.0 (cpu_at s cpu) true a.1;
+    })
+
+told_take : (cpu actor : ℕ) (s t : StateValue) → cpu < length s.cpus → take_by actor s ≡ Ok t → Told cpu (actor, event.Call calls.Take) s t
+unfolding take_by
+told_take cpu actor s t below e =
+    let c = taken (cpu_at s actor) in
+    let x = with_cpu actor (moved actor s) c in
+    let m = both_made (may_take (not s.setting.without.interrupts) (cpu_at s actor)) (λ u. Ok x) t e in
+    let at : cpu_at x cpu ≡ (if actor == cpu then c else cpu_at s cpu) = at_with cpu actor (moved actor s) c (actor == cpu) refl below in
+    let pending : (cpu_at x cpu).pending ≡ (cpu_at s cpu).pending = search (cases_eq, cpu_changed, cpu_kept, arith) in
+    told_end cpu (actor, event.Call calls.Take) s x t (cc) (record {
+      pending = pending;
+      accepted = ap (λ x. x.accepted) at ∙ accepted_if (actor == cpu) c (cpu_at s cpu) false refl;
+    })
+
+told_call : (cpu actor : ℕ) (e : CallEvent) (s t : StateValue) → cpu < length s.cpus → goes actor (event.Call e) s ≡ Ok t → Told cpu (actor, event.Call e) s t
+unfolding call_goes
+told_call cpu actor (calls.Queue id to class func info) s t below e =
+    let i = interrupts_queue cpu actor id to class func info s t below e in record { pending = i.pending; accepted = i.accepted }
+told_call cpu actor (calls.QueueOther to node) s t below e =
+    let i = interrupts_other cpu actor to s t below e in record { pending = i.pending; accepted = i.accepted }
+told_call cpu actor (calls.Free id) s t below e =
+    let i = interrupts_kept s.setting.without.order cpu s t below (keeps_freed id s t e) in record { pending = i.pending; accepted = i.accepted }
+told_call cpu actor (calls.Send to) s t below e = told_send cpu actor to s t below e
+told_call cpu actor calls.Accept s t below e = told_accept cpu actor s t below e
+told_call cpu actor calls.Idle s t below e =
+    let m = both_made (idle_by actor s) (λ u. Ok s) t e in
+    told_end cpu (actor, event.Call calls.Idle) s s t (cc) (record { pending = refl; accepted = refl })
+told_call cpu actor calls.Take s t below e = told_take cpu actor s t below e
+told_call cpu actor (calls.Unlock id) s t below e =
+    let i = interrupts_kept true cpu s t below (keeps_unlock true actor id s t e) in record { pending = i.pending; accepted = i.accepted }
+told_call cpu actor (calls.Begin id func info) s t below e =
+    let i = interrupts_kept s.setting.without.order cpu s t below (keeps_begin actor id func info s t e) in
+    record { pending = i.pending; accepted = i.accepted }
+told_call cpu actor (calls.End id) s t below e =
+    let i = interrupts_kept true cpu s t below (keeps_ended true actor id s t e) in record { pending = i.pending; accepted = i.accepted }
+
+told_goes : (cpu actor : ℕ) (e : Event) (s t : StateValue) → cpu < length s.cpus → goes actor e s ≡ Ok t → Told cpu (actor, e) s t
+told_goes cpu actor (event.Call e) s t below g = told_call cpu actor e s t below g
+told_goes cpu actor (event.Stop e) s t below g =
+    let i = interrupts_kept true cpu s t below (keeps_kept true s t (stop_keeps_calls actor e s t g)) in
+    record { pending = i.pending; accepted = i.accepted }
+told_goes cpu actor (event.Label e) s t below g =
+    let i = interrupts_kept true cpu s t below (keeps_kept true s t (label_keeps_calls actor e s t (low_event actor _ t g).1)) in
+    record { pending = i.pending; accepted = i.accepted }
+
+told_runs : (cpu : ℕ) (es : List (ℕ × Event)) (s t : StateValue) → cpu < length s.cpus → RunsOf s es t
+    → ((cpu_at t cpu).pending ≡ pending_from cpu (cpu_at s cpu).pending es) × ((cpu_at t cpu).accepted ≡ accepted_from cpu (cpu_at s cpu).accepted es)
+unfolding pending_from accepted_from
+told_runs cpu [] s t below run = (ap (λ x. (cpu_at x cpu).pending) run, ap (λ x. (cpu_at x cpu).accepted) run)
+told_runs cpu (e ∷ es) s t below (m, (g, run)) =
+    let told = told_goes cpu e.0 e.1 s m below g in
+    let long = (event_shows s.setting.without.order cpu e.0 e.1 s m refl below g).goes.cpus_are in
+    let rest = told_runs cpu es m t (rw long below) run in
+    (rest.0 ∙ ap (λ b. pending_from cpu b es) told.pending, rest.1 ∙ ap (λ b. accepted_from cpu b es) told.accepted)
+
+pub interrupts_are_told : OfEachTrace InterruptIsTold
+interrupts_are_told u words es t run cpu low =
+    let first = opening u words in
+    let fresh = fresh_at u words cpu in
+    let r = told_runs cpu es first t (rw (cpus_at_first u words) low) run in
+    record {
+      pending = r.0 ∙ ap (λ c. pending_from cpu c.pending es) fresh;
+      accepted = r.1 ∙ ap (λ c. accepted_from cpu c.accepted es) fresh;
+    }

@@ -1,5 +1,8 @@
-use Rattle.trace_laws.proofs.Calls.LostQueues.{queues_are_not_lost}
+use Rattle.trace_laws.proofs.Calls.LostQueues.{interrupts_are_told, queues_are_not_lost}
 use Rattle.trace_laws.proofs.laws.queues_are_not_lost.Goals as goal
 
-pub returns : goal.returns
-returns c = queues_are_not_lost
+pub returns-clause-queues : goal.returns-clause-queues
+returns-clause-queues c = queues_are_not_lost
+
+pub returns-clause-interrupts : goal.returns-clause-interrupts
+returns-clause-interrupts c = interrupts_are_told
