@@ -87,7 +87,7 @@ const EVENTS: [&str; 27] = [
 /// How a stop is opened and its result collected.
 const STOPS: [&str; 2] = ["open KIND MASK ACTIVE FUNC ARG", "collect V"];
 
-/// The same in version 3, where a stop has a number of its own; and what joins a queue and is no call.
+/// Events of version 3 alone. A stop has a number of its own there, and `queue D NODE` tells what is no call.
 const THIRD_EVENTS: [&str; 3] = [
     "open S KIND MASK ACTIVE FUNC ARG",
     "collect S V",
