@@ -9,4 +9,5 @@ pub mod TwoSteps
 pub mod MadeSteps
 pub mod Targets
 pub mod LostQueues
+pub mod OwedInterrupts
 pub mod AcceptedTexts

@@ -1,5 +1,5 @@
 -- A queue that is not empty is not lost.
-use Rattle.std.specs.Prelude.{◌≡◌, ◌⊎◌, ℕ, ◌<◌, Bool, true, false, ◌||◌, ◌==◌, if◌then◌else◌, List, [], ◌∷◌}
+use Rattle.std.specs.Prelude.{◌≡◌, ◌⊎◌, ℕ, ◌<◌, Bool, true, false, not, ◌&&◌, ◌||◌, ◌==◌, if◌then◌else◌, List, [], ◌∷◌}
 use Rattle.std.specs.List.{AllByRecursion}
 use Rattle.smp_labels.specs.declared.words.LabelWords.{LabelWords}
 use Rattle.trace_model.specs.declared.event.CallEvent.TheVariants as calls
@@ -65,3 +65,20 @@ accepted_from cpu accepted (e ∷ es) = accepted_from cpu (accepted_next cpu acc
 pub record InterruptIsTold (u : Setting) (es : List (ℕ × Event)) (t : StateValue) (cpu : ℕ) : Type 0 where
   pub pending : (cpu_at t cpu).pending ≡ pending_from cpu false es
   pub accepted : (cpu_at t cpu).accepted ≡ accepted_from cpu false es
+
+-- whether a CPU owes another an interrupt after one more event: what it adds to an empty queue makes it owe one, its `send` there takes the debt
+abbrev pub owed_next : ℕ → ℕ → Bool → Bool → ℕ × Event → Bool
+owed_next cpu source filled owed (actor, event.Call (calls.Queue id to class func info)) =
+    if (actor == source) && (to == cpu) && not filled then true else owed
+owed_next cpu source filled owed (actor, event.Call (calls.QueueOther to node)) = if (actor == source) && (to == cpu) && not filled then true else owed
+owed_next cpu source filled owed (actor, event.Call (calls.Send to)) = if (actor == source) && (to == cpu) then false else owed
+owed_next cpu source filled owed _ = owed
+
+-- whether it does after these events, where `filled` says whether something was in that queue
+unfoldable pub owed_from : ℕ → ℕ → Bool → Bool → List (ℕ × Event) → Bool
+owed_from cpu source filled owed [] = owed
+owed_from cpu source filled owed (e ∷ es) = owed_from cpu source (filled_next cpu filled e) (owed_next cpu source filled owed e) es
+
+-- Where the order is told, a CPU owes another an interrupt just where the events say so.
+abbrev pub InterruptIsOwed : Setting → List (ℕ × Event) → StateValue → ℕ → Type 0
+InterruptIsOwed u es t cpu = u.without.order ≡ false → (source : ℕ) → source < 512 → owes t cpu source ≡ owed_from cpu source false false es

@@ -3,7 +3,7 @@
 
 ghost use Rattle.trace_laws.specs.Drained.{DrainedEquals};
 ghost use Rattle.trace_laws.specs.LawfulLabels.{LabelsAreLawful, ReadsAreLawful};
-ghost use Rattle.trace_laws.specs.LostQueues.{InterruptIsTold, QueuesAreNotLost};
+ghost use Rattle.trace_laws.specs.LostQueues.{InterruptIsOwed, InterruptIsTold, QueuesAreNotLost};
 ghost use Rattle.trace_laws.specs.Places.{InOnePlace};
 ghost use Rattle.trace_laws.specs.OpenStops.{GateIsOfOne, StopsOpenOnce};
 ghost use Rattle.trace_laws.specs.StopEvents.{FunctionsRunAtRun, PatchesStoreAtRun};
@@ -44,10 +44,11 @@ pub fn calls_have_targets()
 /// Where the order of queues is told, a CPU's queue is not empty exactly where something, a call or what shares its queue, has
 /// joined it since the CPU's last `take`. Wherever it is not empty, the CPU has accepted an interrupt, one is pending for it, or a
 /// CPU owes it one. The events are of CPUs below 512. An interrupt is pending for a CPU from a `send` to it until its `accept`, and is
-/// accepted until its `take`.
+/// accepted until its `take`. Where the order is told, a CPU owes an interrupt from when it adds to an empty queue until its `send` there.
 pub fn queues_are_not_lost()
     ensures queues { QueuesAreNotLost }
     ensures interrupts { OfEachTrace InterruptIsTold }
+    ensures owed { OfEachTrace InterruptIsOwed }
 {}
 
 /// Calls begin in the order of the queues that a CPU takes: at each `take` the calls that were queued since the one before,

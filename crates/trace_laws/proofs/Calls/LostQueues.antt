@@ -33,12 +33,12 @@ use Rattle.trace_laws.specs.LostQueues.{pending_from, pending_next}
 use Rattle.trace_laws.specs.Traces.{OfEachTrace}
 
 -- A CPU's queue is empty as before, or where the order is left out has lost a call. Its interrupts, and those that it owes, are as before.
-record Holds (order : Bool) (a b : CpuState) : Type 0 where
-  nodes : order ≡ false → has_nodes b ≡ has_nodes a
-  fewer : has_nodes b ≡ true → has_nodes a ≡ true
-  pending : b.pending ≡ a.pending
-  accepted : b.accepted ≡ a.accepted
-  owed : b.owes ≡ a.owes
+pub record Holds (order : Bool) (a b : CpuState) : Type 0 where
+  pub nodes : order ≡ false → has_nodes b ≡ has_nodes a
+  pub fewer : has_nodes b ≡ true → has_nodes a ≡ true
+  pub pending : b.pending ≡ a.pending
+  pub accepted : b.accepted ≡ a.accepted
+  pub owed : b.owes ≡ a.owes
 
 holds_end : (order : Bool) (a b c : CpuState) → b ≡ c → Holds order a b → Holds order a c
 holds_end order a b c same h = subst (λ (x : CpuState). Holds order a x) same h
@@ -115,10 +115,10 @@ holds_from_queue : (r : ℕ) (a : CpuState) → Holds true a (slipped_from_queue
 holds_from_queue r a = search (holds_slipped_any, holds_same, arith)
 
 -- Each CPU's queue, interrupts and those that it owes are so.
-record Keeps (order : Bool) (s t : StateValue) : Type 0 where
-  setting_is : t.setting ≡ s.setting
-  cpus_are : length t.cpus ≡ length s.cpus
-  holds : (cpu : ℕ) → cpu < length s.cpus → Holds order (cpu_at s cpu) (cpu_at t cpu)
+pub record Keeps (order : Bool) (s t : StateValue) : Type 0 where
+  pub setting_is : t.setting ≡ s.setting
+  pub cpus_are : length t.cpus ≡ length s.cpus
+  pub holds : (cpu : ℕ) → cpu < length s.cpus → Holds order (cpu_at s cpu) (cpu_at t cpu)
 
 keeps_end : (order : Bool) (s t u : StateValue) → t ≡ u → Keeps order s t → Keeps order s u
 keeps_end order s t u same k = subst (λ (x : StateValue). Keeps order s x) same k
@@ -129,7 +129,7 @@ keeps_cpu order actor s c h = search (length-set, cases_eq, cpu_changed, cpu_kep
 keeps_same : (order : Bool) (s t : StateValue) → t.setting ≡ s.setting → t.cpus ≡ s.cpus → Keeps order s t
 keeps_same order s t h1 h2 = search (holds_same, arith)
 
-keeps_refl : (order : Bool) (s : StateValue) → Keeps order s s
+pub keeps_refl : (order : Bool) (s : StateValue) → Keeps order s s
 keeps_refl order s = keeps_same order s s refl refl
 
 holds_then : (order : Bool) (a b c : CpuState) → Holds order a b → Holds order b c → Holds order a c
@@ -163,7 +163,7 @@ keeps_freed_by order id place s t slip k e = search (keeps_end, keeps_then, keep
 keeps_freed_from : (id : ℕ) (place : Place) (s t : StateValue) → freed_from id place s ≡ Ok t → Keeps s.setting.without.order s t
 keeps_freed_from id place s t h1 = search (keeps_end, keeps_refl, keeps_freed_by, keeps_slipped, arith)
 
-keeps_freed : (id : ℕ) (s t : StateValue) → freed id s ≡ Ok t → Keeps s.setting.without.order s t
+pub keeps_freed : (id : ℕ) (s t : StateValue) → freed id s ≡ Ok t → Keeps s.setting.without.order s t
 keeps_freed id s t e = search (keeps_freed_from, arith)
 
 -- a CPU handles what it has taken
@@ -172,7 +172,7 @@ keeps_made : (order : Bool) (actor : ℕ) (s t : StateValue) (made : Result CpuS
 keeps_made order actor s t made e holds =
     let m = made_on_cpu actor s t made e in keeps_end order s (with_cpu actor s m.0) t m.1.1 (keeps_cpu order actor s m.0 (holds m.0 m.1.0))
 
-keeps_unlock : (order : Bool) (actor id : ℕ) (s t : StateValue) → unlock_by actor id s ≡ Ok t → Keeps order s t
+pub keeps_unlock : (order : Bool) (actor id : ℕ) (s t : StateValue) → unlock_by actor id s ≡ Ok t → Keeps order s t
 unfolding unlock_by
 keeps_unlock order actor id s t e =
     let here = is_batch (place_at s id) actor in
@@ -185,7 +185,7 @@ keeps_unlock order actor id s t e =
 keeps_placed : (order unless : Bool) (actor id : ℕ) (s : StateValue) → Keeps order s (placed_unless unless actor id s)
 keeps_placed order unless actor id s = search (keeps_same, keeps_refl, arith)
 
-keeps_begin : (actor id func info : ℕ) (s t : StateValue) → begin_by actor (record { id = id; func = func; info = info }) s ≡ Ok t
+pub keeps_begin : (actor id func info : ℕ) (s t : StateValue) → begin_by actor (record { id = id; func = func; info = info }) s ≡ Ok t
     → Keeps s.setting.without.order s t
 unfolding begin_by
 keeps_begin actor id func info s t e =
@@ -199,7 +199,7 @@ keeps_begin actor id func info s t e =
 keeps_freed_if : (order test : Bool) (id : ℕ) (s : StateValue) → Keeps order s (freed_if test id s)
 keeps_freed_if order test id s = search (keeps_same, keeps_refl, arith)
 
-keeps_ended : (order : Bool) (actor id : ℕ) (s t : StateValue) → end_by actor id s ≡ Ok t → Keeps order s t
+pub keeps_ended : (order : Bool) (actor id : ℕ) (s t : StateValue) → end_by actor id s ≡ Ok t → Keeps order s t
 unfolding end_by
 keeps_ended order actor id s t e =
     let unlocks = not s.setting.without.unlocks in
@@ -210,7 +210,7 @@ keeps_ended order actor id s t e =
     (keeps_end order n.0 (freed_if test id n.0) t (cc) (keeps_freed_if order test id n.0))
 
 -- an event of stops or of labels
-keeps_kept : (order : Bool) (s t : StateValue) → KeepsCalls s t → Keeps order s t
+pub keeps_kept : (order : Bool) (s t : StateValue) → KeepsCalls s t → Keeps order s t
 keeps_kept order s t k = search (holds_by, arith)
 
 -- As much is in a CPU's queue as before, and what sees to it does so still.
@@ -263,22 +263,22 @@ keeps_order order filled cpu s t k keeps = search arith
 owed_more : (first : Bool) (to cpu : ℕ) (xs : List Bool) → slice_index_or xs cpu false ≡ true → slice_index_or (owed_if first to xs) cpu false ≡ true
 owed_more first to cpu xs h = search (cases_eq, cases_lt, get_or-set_same, get_or-set_other, get_or_past, arith)
 
-owed_long : (first : Bool) (to : ℕ) (xs : List Bool) → length (owed_if first to xs) ≡ length xs
+pub owed_long : (first : Bool) (to : ℕ) (xs : List Bool) → length (owed_if first to xs) ≡ length xs
 owed_long first to xs = search (length-set, arith)
 
 -- Something joins the queue of a CPU.
-record Joins (a c : CpuState) : Type 0 where
-  nodes : has_nodes c ≡ true
-  pending : c.pending ≡ a.pending
-  accepted : c.accepted ≡ a.accepted
-  owed : c.owes ≡ a.owes
+pub record Joins (a c : CpuState) : Type 0 where
+  pub nodes : has_nodes c ≡ true
+  pub pending : c.pending ≡ a.pending
+  pub accepted : c.accepted ≡ a.accepted
+  pub owed : c.owes ≡ a.owes
 
 -- A CPU owes another an interrupt, if what it has added is the first there.
-record Owes (first : Bool) (to : ℕ) (b d : CpuState) : Type 0 where
-  nodes : has_nodes d ≡ has_nodes b
-  pending : d.pending ≡ b.pending
-  accepted : d.accepted ≡ b.accepted
-  owed : d.owes ≡ owed_if first to b.owes
+pub record Owes (first : Bool) (to : ℕ) (b d : CpuState) : Type 0 where
+  pub nodes : has_nodes d ≡ has_nodes b
+  pub pending : d.pending ≡ b.pending
+  pub accepted : d.accepted ≡ b.accepted
+  pub owed : d.owes ≡ owed_if first to b.owes
 
 sized_joined : (order first : Bool) (to actor : ℕ) (s : StateValue) (c d : CpuState) → Sized order s → Joins (cpu_at s to) c
     → Owes first to (cpu_at (with_cpu to s c) actor) d → Sized order (with_cpu actor (with_cpu to s c) d)
@@ -337,7 +337,7 @@ kept_joined order filled cpu to actor s c d false e k below actor_below ne j o =
     (sees_joined first cpu to actor s c d k.sized.cpus_are below j (λ x. absurd (eqb-false to cpu e (sym x))) o)
 
 -- a call joins the queue of its destination
-has_pushed : (others : Bool) (call : Call) (queue : List Call) → not (not others && is_empty (queue ++ call ∷ [])) ≡ true
+pub has_pushed : (others : Bool) (call : Call) (queue : List Call) → not (not others && is_empty (queue ++ call ∷ [])) ≡ true
 has_pushed true call queue = refl
 has_pushed false call [] = refl
 has_pushed false call (x ∷ xs) = refl
@@ -424,12 +424,12 @@ kept_send order filled cpu actor to s t k below e =
     kept_end order filled cpu n t (cc) (kept_sent order filled cpu actor to s k below)
 
 -- A CPU has accepted the interrupt that was pending.
-record Accepts (a b : CpuState) : Type 0 where
-  nodes : has_nodes b ≡ has_nodes a
-  accepted : b.accepted ≡ true
-  owed : b.owes ≡ a.owes
+pub record Accepts (a b : CpuState) : Type 0 where
+  pub nodes : has_nodes b ≡ has_nodes a
+  pub accepted : b.accepted ≡ true
+  pub owed : b.owes ≡ a.owes
 
-accepts : (a b : CpuState) → accepted a ≡ Ok b → Accepts a b
+pub accepts : (a b : CpuState) → accepted a ≡ Ok b → Accepts a b
 accepts a b e = search (passed, both_made, arith)
 
 kept_accepted : (order filled : Bool) (cpu actor : ℕ) (s : StateValue) (c : CpuState) → Kept order filled cpu s → cpu < 512 → Accepts (cpu_at s actor) c
@@ -526,7 +526,7 @@ queues_are_not_lost u words es t run all cpu below =
     record { filled = k.nodes; seen_to = k.seen_to }
 
 -- a CPU that is put elsewhere, or here
-at_with : (cpu x : ℕ) (s : StateValue) (c : CpuState) (here : Bool) → (x == cpu) ≡ here → cpu < length s.cpus
+pub at_with : (cpu x : ℕ) (s : StateValue) (c : CpuState) (here : Bool) → (x == cpu) ≡ here → cpu < length s.cpus
     → cpu_at (with_cpu x s c) cpu ≡ (if here then c else cpu_at s cpu)
 at_with cpu x s c true e below =
     let same : x ≡ cpu = eqb-true x cpu e in
