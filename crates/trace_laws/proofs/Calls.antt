@@ -10,4 +10,5 @@ pub mod MadeSteps
 pub mod Targets
 pub mod LostQueues
 pub mod OwedInterrupts
+pub mod Interrupts
 pub mod AcceptedTexts

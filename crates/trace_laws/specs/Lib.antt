@@ -13,6 +13,7 @@ pub mod Targets
 pub mod AcceptedTexts
 pub mod ReadVersions
 pub mod LostQueues
+pub mod Interrupts
 -- a state of the model that agrees with a machine
 pub mod AgreeingCalls
 pub mod AgreeingStops

@@ -3,6 +3,7 @@
 
 ghost use Rattle.trace_laws.specs.Drained.{DrainedEquals};
 ghost use Rattle.trace_laws.specs.LawfulLabels.{LabelsAreLawful, ReadsAreLawful};
+ghost use Rattle.trace_laws.specs.Interrupts.{InterruptsTakeTurns, SendsHaveTargets, SwitchesTakeTurns};
 ghost use Rattle.trace_laws.specs.LostQueues.{InterruptIsOwed, InterruptIsTold, QueuesAreNotLost};
 ghost use Rattle.trace_laws.specs.Places.{InOnePlace};
 ghost use Rattle.trace_laws.specs.OpenStops.{GateIsOfOne, StopsOpenOnce};
@@ -49,6 +50,15 @@ pub fn queues_are_not_lost()
     ensures queues { QueuesAreNotLost }
     ensures interrupts { OfEachTrace InterruptIsTold }
     ensures owed { OfEachTrace InterruptIsOwed }
+{}
+
+/// A CPU below 512 accepts an interrupt that is pending, finds none where none is, and where interrupts are told it takes its queue once
+/// it has accepted one. An interrupt is sent to a CPU that is online. Where switches are told, a CPU turns its interrupts off and on in
+/// turn, and it accepts one, finds none and takes its queue with its interrupts on.
+pub fn interrupts_are_taken_in_turn()
+    ensures turns { InterruptsTakeTurns }
+    ensures targets { SendsHaveTargets }
+    ensures switches { SwitchesTakeTurns }
 {}
 
 /// Calls begin in the order of the queues that a CPU takes: at each `take` the calls that were queued since the one before,

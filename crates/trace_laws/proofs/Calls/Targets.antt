@@ -15,7 +15,7 @@ use Rattle.trace_laws.proofs.Calls.MadeSteps.{failed, low_event, passed}
 use Rattle.trace_laws.proofs.Stops.AtRun.{runs_last, setting_at_first, setting_runs}
 use Rattle.trace_laws.specs.Targets.{CallsHaveTargets, IsThere, NamesStop, OthersHaveTargets, StopsAreLow, StopsAreThere, is_inside}
 
-is_there : (u : Setting) (cpu : ℕ) → is_online u cpu ≡ true → IsThere u cpu
+pub is_there : (u : Setting) (cpu : ℕ) → is_online u cpu ≡ true → IsThere u cpu
 is_there u cpu is = elim (cases_lt cpu 32) [
   | inl low ↦ inl (low, (rw (lt-ltb cpu 32 low) at is))
   | inr high ↦
