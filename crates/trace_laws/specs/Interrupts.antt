@@ -30,13 +30,14 @@ abbrev pub SendsHaveTargets : Type 0
 SendsHaveTargets = (u : Setting) (words : LabelWords) (es : List (ℕ × Event)) (t : StateValue) (cpu to : ℕ)
     → IsTrace u words (es ++ (cpu, event.Call (calls.Send to)) ∷ []) t → IsThere u to
 
--- an `off` finds interrupts on, an `on` finds them off, and a CPU accepts one, looks for one and takes its queue with them on
+-- an `off` finds interrupts on, an `on` finds them off, and a CPU accepts one, looks for one, takes its queue and begins a call with them on
 abbrev pub FindsSwitch : ℕ → Event → List (ℕ × Event) → Type 0
 FindsSwitch cpu (event.Stop stops.Off) es = (seen cpu es).irq ≡ true
 FindsSwitch cpu (event.Stop stops.On) es = (seen cpu es).irq ≡ false
 FindsSwitch cpu (event.Call calls.Accept) es = (seen cpu es).irq ≡ true
 FindsSwitch cpu (event.Call calls.Idle) es = (seen cpu es).irq ≡ true
 FindsSwitch cpu (event.Call calls.Take) es = (seen cpu es).irq ≡ true
+FindsSwitch cpu (event.Call (calls.Begin id func info)) es = (seen cpu es).irq ≡ true
 FindsSwitch cpu _ es = Unit {0}
 
 -- where switches are told, each CPU finds that

@@ -54,7 +54,7 @@ pub fn queues_are_not_lost()
 
 /// A CPU below 512 accepts an interrupt that is pending, finds none where none is, and where interrupts are told it takes its queue once
 /// it has accepted one. An interrupt is sent to a CPU that is online. Where switches are told, a CPU turns its interrupts off and on in
-/// turn, and it accepts one, finds none and takes its queue with its interrupts on.
+/// turn. It accepts one, finds none, takes its queue and begins a call with its interrupts on.
 pub fn interrupts_are_taken_in_turn()
     ensures turns { InterruptsTakeTurns }
     ensures targets { SendsHaveTargets }

@@ -2,12 +2,15 @@
 use Rattle.trace_laws.proofs.Names.{Bool, CallEvent, CpuState, Event, LabelWords, List, Ok, Runs, Seen, Setting, StateValue, StopEvent, [], accepted, ap, arith}
 use Rattle.trace_laws.proofs.Names.{call_goes, cases_lt, cpu_at, false, goes, idle_by, inl, inr, inside_goes, interrupted, is_online, may_take, moved, ne_eqb}
 use Rattle.trace_laws.proofs.Names.{not, off_by, on_by, opening, refl, seen, send_by, sent, stop_goes, sym, take_by, taken, true, unseen, with_cpu, ℕ, ◌<◌}
-use Rattle.trace_laws.proofs.Names.{◌==◌, ◌∙◌, ◌∷◌, ◌≡◌, ◌≤◌}
+use Rattle.trace_laws.proofs.Names.{begin_by, is_some, ◌==◌, ◌∙◌, ◌∷◌, ◌≡◌, ◌≤◌}
 use Rattle.trace_model.specs.declared.event.CallEvent.TheVariants as calls
 use Rattle.trace_model.specs.declared.event.Event.TheVariants as event
 use Rattle.trace_model.specs.declared.event.StopEvent.TheVariants as stops
 use Rattle.trace_model.specs.declared.reason.Reason.TheVariants as reason
+use Rattle.trace_model.specs.declared.call.Place.{Place}
+use Rattle.trace_model.specs.Calls.{entered_by, on_cpu, placed_unless}
 use Rattle.trace_model.specs.Cpu.{as_idle}
+use Rattle.trace_model.specs.State.{place_at}
 use Rattle.trace_laws.proofs.Calls.CallEvents.{made_on_cpu}
 use Rattle.trace_laws.proofs.Calls.LostQueues.{interrupts_are_told}
 use Rattle.trace_laws.proofs.Calls.MadeSteps.{both_made, failed, low_event, passed}
@@ -55,6 +58,21 @@ take_finds cpu s t e =
     let told = not s.setting.without.interrupts in
     let m = both_made (may_take told (cpu_at s cpu)) (λ u. Ok (with_cpu cpu (moved cpu s) (taken (cpu_at s cpu)))) t e in
     takes_so told (cpu_at s cpu) m.0 m.1.0
+
+entered_irq : (order : Bool) (cpu id func info : ℕ) (place : Place) (s : StateValue) (c : CpuState)
+    → entered_by order cpu (record { id = id; func = func; info = info }) place s ≡ Ok c → (cpu_at s cpu).irq ≡ true
+entered_irq true cpu id func info place s c e = (passed (cpu_at s cpu).irq _ _ c e).0
+entered_irq false cpu id func info place s c e = (passed (cpu_at s cpu).irq _ _ c e).0
+
+begin_finds : (cpu id func info : ℕ) (s t : StateValue) → goes cpu (event.Call (calls.Begin id func info)) s ≡ Ok t → (cpu_at s cpu).irq ≡ true
+unfolding call_goes begin_by
+begin_finds cpu id func info s t e =
+    let order = s.setting.without.order in
+    let unless = is_some (cpu_at s cpu).current in
+    let made = entered_by order cpu (record { id = id; func = func; info = info }) (place_at s id) s in
+    let m = both_made (on_cpu cpu s made) (λ x. Ok (placed_unless unless cpu id x)) t e in
+    let c = made_on_cpu cpu s m.0 made m.1.0 in
+    entered_irq order cpu id func info (place_at s id) s c.0 c.1.0
 
 -- a CPU from 32 on is in no stop, and its events tell nothing of stops
 seen_elsewhere : (actor cpu : ℕ) (new v : Seen) → actor < 32 → 32 ≤ cpu → seen_if (actor == cpu) new v ≡ v
@@ -111,6 +129,7 @@ finds_switch cpu (event.Stop stops.On) es s t i e = let m = low_event cpu _ t e 
 finds_switch cpu (event.Call calls.Accept) es s t i e = on_told es s cpu i (accept_finds cpu s t e).irq
 finds_switch cpu (event.Call calls.Idle) es s t i e = on_told es s cpu i (idle_finds cpu s t e).irq
 finds_switch cpu (event.Call calls.Take) es s t i e = on_told es s cpu i (take_finds cpu s t e).irq
+finds_switch cpu (event.Call (calls.Begin id func info)) es s t i e = on_told es s cpu i (begin_finds cpu id func info s t e)
 finds_switch cpu _ es s t i e = tt
 
 pub switches_take_turns : SwitchesTakeTurns
