@@ -5,3 +5,4 @@ pub mod Ends
 pub mod QuietCpus
 pub mod AtRun
 pub mod OpenStops
+pub mod StopResults

@@ -5,6 +5,7 @@ pub mod Places
 pub mod RecordTurns
 pub mod StopEvents
 pub mod OpenStops
+pub mod StopResults
 pub mod LawfulLabels
 -- the laws of traces, and of accepted texts
 pub mod Traces

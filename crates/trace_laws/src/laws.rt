@@ -8,6 +8,7 @@ ghost use Rattle.trace_laws.specs.LostQueues.{InterruptIsOwed, InterruptIsTold, 
 ghost use Rattle.trace_laws.specs.Places.{InOnePlace};
 ghost use Rattle.trace_laws.specs.OpenStops.{GateIsOfOne, StopsOpenOnce};
 ghost use Rattle.trace_laws.specs.StopEvents.{FunctionsRunAtRun, PatchesStoreAtRun};
+ghost use Rattle.trace_laws.specs.StopResults.{EntersAreCalled, ResultsAreOfAll};
 ghost use Rattle.trace_laws.specs.AcceptedTexts.{AcceptedAreTraces};
 ghost use Rattle.trace_laws.specs.Traces.{BeginInOrder, BeginOnce, CountsAre, EndOnce, OfEachTrace, IsTrace};
 ghost use Rattle.trace_laws.specs.ReadVersions.{OthersAreThird, StopsAreNumbered, UnknownIsAsync};
@@ -94,6 +95,13 @@ pub fn versions_differ()
 pub fn stops_open_once()
     ensures opens { StopsOpenOnce }
     ensures gate { GateIsOfOne }
+{}
+
+/// A CPU enters a stop that is open and calls it, once, while it is in none. A result is collected once each CPU of the mask has
+/// completed: it is 0 where all answered 0, and else one of their answers that are not 0.
+pub fn stops_give_results()
+    ensures called { EntersAreCalled }
+    ensures results { ResultsAreOfAll }
 {}
 
 /// A function runs once, in the stop that its CPU is in, with the argument that was opened. That of a rendezvous runs only at RUN,

@@ -181,10 +181,10 @@ told_put opens holds number s stop is h1 h2 h3 = search (length-set, cases_eq, e
 holder_was : (holds : Option ℕ) (cpu : ℕ) (u : Unit {0}) → holder_is holds cpu ≡ Ok u → holds ≡ Some cpu
 holder_was holds cpu u h1 = search (passed, eqb-true, arith)
 
-gate_is : (holds : Option ℕ) (cpu : ℕ) (s t : StateValue) → gate_with holds cpu s ≡ Ok t → (holds ≡ None) × (record s { gate = Some cpu } ≡ t)
+pub gate_is : (holds : Option ℕ) (cpu : ℕ) (s t : StateValue) → gate_with holds cpu s ≡ Ok t → (holds ≡ None) × (record s { gate = Some cpu } ≡ t)
 gate_is holds cpu s t h1 = search arith
 
-ungate_is : (cpu : ℕ) (s t : StateValue) → ungate_by cpu s ≡ Ok t → (s.gate ≡ Some cpu) × (record s { gate = None } ≡ t)
+pub ungate_is : (cpu : ℕ) (s t : StateValue) → ungate_by cpu s ≡ Ok t → (s.gate ≡ Some cpu) × (record s { gate = None } ≡ t)
 unfolding ungate_by
 ungate_is cpu s t h1 = search (both_made, holder_was, arith)
 
@@ -198,7 +198,7 @@ pub record Opens (s t : StateValue) (cpu number : ℕ) (task : Task) : Type 0 wh
   pub held : s.setting.without.gate ≡ false → s.gate ≡ Some cpu
   pub made : with_stop number s (opening task) ≡ t
 
-open_is : (s t : StateValue) (cpu number : ℕ) (task : Task) → open_by cpu number task s ≡ Ok t → Opens s t cpu number task
+pub open_is : (s t : StateValue) (cpu number : ℕ) (task : Task) → open_by cpu number task s ≡ Ok t → Opens s t cpu number task
 unfolding open_by
 open_is s t cpu number task e =
     let o = passed (nat_lt number 64) (open_closed cpu number task s) reason.NoSuchWork t e in
