@@ -111,8 +111,8 @@ result_is : (number : ℕ) (es : List (ℕ × Event)) (s : StateValue) (answer :
 result_is number es s answer c opened told =
     let stop = stop_at s number in
     let all = λ (cpu : ℕ) (low : cpu < 32) (m : has stop.task.mask cpu ≡ true).
-        given_is (answer_of stop cpu) (has stop.task.mask cpu)
-        (first_none (λ c. has stop.task.mask c && is_none (answer_of stop c)) 0 32 c.all cpu (omega arith) (omega arith)) m in
+    given_is (answer_of stop cpu) (has stop.task.mask cpu)
+    (first_none (λ c. has stop.task.mask c && is_none (answer_of stop c)) 0 32 c.all cpu (omega arith) (omega arith)) m in
     record {
       task = stop.task;
       opened = opened;
