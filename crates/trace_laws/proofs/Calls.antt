@@ -11,4 +11,5 @@ pub mod Targets
 pub mod LostQueues
 pub mod OwedInterrupts
 pub mod Interrupts
+pub mod HandledCalls
 pub mod AcceptedTexts

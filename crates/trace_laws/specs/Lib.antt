@@ -15,6 +15,7 @@ pub mod AcceptedTexts
 pub mod ReadVersions
 pub mod LostQueues
 pub mod Interrupts
+pub mod HandledCalls
 -- a state of the model that agrees with a machine
 pub mod AgreeingCalls
 pub mod AgreeingStops

@@ -3,6 +3,7 @@
 
 ghost use Rattle.trace_laws.specs.Drained.{DrainedEquals};
 ghost use Rattle.trace_laws.specs.LawfulLabels.{LabelsAreLawful, ReadsAreLawful};
+ghost use Rattle.trace_laws.specs.HandledCalls.{CallActs, CallsAreDone};
 ghost use Rattle.trace_laws.specs.Interrupts.{InterruptsTakeTurns, SendsHaveTargets, SwitchesTakeTurns};
 ghost use Rattle.trace_laws.specs.LostQueues.{InterruptIsOwed, InterruptIsTold, QueuesAreNotLost};
 ghost use Rattle.trace_laws.specs.Places.{InOnePlace};
@@ -60,6 +61,15 @@ pub fn interrupts_are_taken_in_turn()
     ensures turns { InterruptsTakeTurns }
     ensures targets { SendsHaveTargets }
     ensures switches { SwitchesTakeTurns }
+{}
+
+/// Where the order of queues and the unlocks are told, a CPU handles the calls that it takes one after the other: a SYNC call's function
+/// begins and ends before its record is unlocked, an ASYNC call's record is unlocked before its function begins. A CPU below 512 accepts
+/// an interrupt, finds none, takes its queue or turns its interrupts off only once each call that began there has ended, and where the
+/// order is told, each call that it took. But for a `take` it has then accepted no interrupt.
+pub fn calls_are_handled_in_turn()
+    ensures acts { OfEachTrace CallActs }
+    ensures quiet { CallsAreDone }
 {}
 
 /// Calls begin in the order of the queues that a CPU takes: at each `take` the calls that were queued since the one before,

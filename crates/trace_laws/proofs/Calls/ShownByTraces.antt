@@ -65,7 +65,7 @@ begin_once u words es t run cpu below =
           t cpu))) c.begins_are),
     ) (IsPermutation-map begin_of (held a ++ queued cpu es) (c.began ++ held (cpu_at t cpu)) c.each_once)
 
-records_of : (calls : List Call) → map record_of (map begin_of calls) ≡ map id_of calls
+pub records_of : (calls : List Call) → map record_of (map begin_of calls) ≡ map id_of calls
 records_of [] = refl
 records_of (x ∷ xs) = ap (λ ys. x.id ∷ ys) (records_of xs)
 

@@ -53,7 +53,7 @@ mover_place s actor id from to c p sh e low =
     place_before (place_at s id) id actor from to (cpu_at s actor) c (p.each id low actor (mover_below s actor id from to c p sh e)) sh e
 
 -- no unlock is left out
-freed_told : (id : ℕ) (place : Place) (s t : StateValue) → s.setting.without.unlocks ≡ false → freed_from id place s ≡ Ok t → (place ≡ Free) × (s ≡ t)
+pub freed_told : (id : ℕ) (place : Place) (s t : StateValue) → s.setting.without.unlocks ≡ false → freed_from id place s ≡ Ok t → (place ≡ Free) × (s ≡ t)
 freed_told id place s t h1 h2 = search arith
 
 queue_turns : (source id to : ℕ) (class : Class) (func info r : ℕ) (s t : StateValue) → Placed s → s.setting.without.unlocks ≡ false → r < 65536
