@@ -6,3 +6,5 @@ pub mod QuietCpus
 pub mod AtRun
 pub mod OpenStops
 pub mod StopResults
+pub mod OpenedWorks
+pub mod GoneByPhases

@@ -6,6 +6,7 @@ pub mod RecordTurns
 pub mod StopEvents
 pub mod OpenStops
 pub mod StopResults
+pub mod Phases
 pub mod LawfulLabels
 -- the laws of traces, and of accepted texts
 pub mod Traces

@@ -10,6 +10,7 @@ ghost use Rattle.trace_laws.specs.Places.{InOnePlace};
 ghost use Rattle.trace_laws.specs.OpenStops.{GateIsOfOne, StopsOpenOnce};
 ghost use Rattle.trace_laws.specs.StopEvents.{FunctionsRunAtRun, PatchesStoreAtRun};
 ghost use Rattle.trace_laws.specs.StopResults.{EntersAreCalled, ResultsAreOfAll};
+ghost use Rattle.trace_laws.specs.Phases.{AcksAreInTurn, CompletesAreThrough, RaisesAreInTurn, SwitchesAreAtPhases, WorksAreOfOnline};
 ghost use Rattle.trace_laws.specs.AcceptedTexts.{AcceptedAreTraces};
 ghost use Rattle.trace_laws.specs.Traces.{BeginInOrder, BeginOnce, CountsAre, EndOnce, OfEachTrace, IsTrace};
 ghost use Rattle.trace_laws.specs.ReadVersions.{OthersAreThird, StopsAreNumbered, UnknownIsAsync};
@@ -112,6 +113,20 @@ pub fn stops_open_once()
 pub fn stops_give_results()
     ensures called { EntersAreCalled }
     ensures results { ResultsAreOfAll }
+{}
+
+/// A stop is opened with a work of CPUs that are online: one alone, one at least, or of a patch all. A CPU acknowledges the phases of its
+/// rendezvous one after the other, each once all CPUs of the mask have acknowledged the one before, DISABLE_IRQ with its interrupts off
+/// where switches are told, and RUN, if it is active and makes no patch, once its function has run. A phase is raised once all have
+/// acknowledged the one before, by the last of them, and once; where raises are told, it is acknowledged only then. A CPU turns its
+/// interrupts off between PREPARE and DISABLE_IRQ, and on once it has acknowledged EXIT. It completes once its function has run, or once
+/// it has acknowledged EXIT, with its interrupts on where switches are told.
+pub fn stops_go_by_phases()
+    ensures works { WorksAreOfOnline }
+    ensures acks { AcksAreInTurn }
+    ensures raises { RaisesAreInTurn }
+    ensures completes { CompletesAreThrough }
+    ensures switches { SwitchesAreAtPhases }
 {}
 
 /// A function runs once, in the stop that its CPU is in, with the argument that was opened. That of a rendezvous runs only at RUN,

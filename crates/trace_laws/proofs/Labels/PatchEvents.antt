@@ -112,7 +112,7 @@ collect_labelled seen work s t number answer r l e =
     (stop_labelled seen work s number to r l (closed_goes seen work s number r l low c.0) low)
 
 -- a set of one member has one alone
-only_one : (m x y k : ℕ) → has m x ≡ true → has m y ≡ true → x < k → y < k → length (members_below m k) ≡ 1 → x ≡ y
+pub only_one : (m x y k : ℕ) → has m x ≡ true → has m y ≡ true → x < k → y < k → length (members_below m k) ≡ 1 → x ≡ y
 only_one m x y k hx hy lx ly one = elim (cases_lt x y) [
   | inl less ↦ (let a = members_more m x y hx less in let b = members_more m y k hy ly in absurd (omega arith))
   | inr more ↦ elim (cases_lt y x) [

@@ -322,12 +322,12 @@ open_told views enters answers cpu number task s t long h e =
     (λ other ne old. other_opened (enters other) (answers other) number other (stop_at s other) ne old) h)
 
 -- What an event that enters a stop finds, and what it makes.
-record Enters (s t : StateValue) (cpu number : ℕ) : Type 0 where
-  low : number < 64
-  is : (stop_at s number).is_open ≡ true
-  called : has (stop_at s number).task.mask cpu ≡ true
-  new : slice_index_or (stop_at s number).entered cpu false ≡ false
-  made : with_inside cpu (Some number) (with_stop number s (record (stop_at s number) { entered = slice_set (stop_at s number).entered cpu true })) ≡ t
+pub record Enters (s t : StateValue) (cpu number : ℕ) : Type 0 where
+  pub low : number < 64
+  pub is : (stop_at s number).is_open ≡ true
+  pub called : has (stop_at s number).task.mask cpu ≡ true
+  pub new : slice_index_or (stop_at s number).entered cpu false ≡ false
+  pub made : with_inside cpu (Some number) (with_stop number s (record (stop_at s number) { entered = slice_set (stop_at s number).entered cpu true })) ≡ t
 
 called_is : (mask entered : Bool) → (mask && not entered) ≡ true → (mask ≡ true) × (entered ≡ false)
 called_is true false e = (refl, refl)
@@ -369,12 +369,12 @@ enter_from_is : (inside : Result ℕ Reason) (cpu number : ℕ) (s t : StateValu
 enter_from_is (Ok inside) cpu number s t e = absurd cc
 enter_from_is (Err why) cpu number s t e = ((λ x f. absurd cc), entered_open_is cpu number s t e)
 
-enter_is : (cpu number : ℕ) (s t : StateValue) → enter_by cpu number s ≡ Ok t → ((x : ℕ) → stop_of cpu s ≡ Ok x → ⊥) × Enters s t cpu number
+pub enter_is : (cpu number : ℕ) (s t : StateValue) → enter_by cpu number s ≡ Ok t → ((x : ℕ) → stop_of cpu s ≡ Ok x → ⊥) × Enters s t cpu number
 unfolding enter_by
 enter_is cpu number s t e = enter_from_is (stop_of cpu s) cpu number s t e
 
 -- a place of a list is set
-set_told : {A : Type 0} (xs : List A) (actor cpu : ℕ) (new none : A) → actor < length xs → cpu ≡ actor ⊎ cpu ≢ actor
+pub set_told : {A : Type 0} (xs : List A) (actor cpu : ℕ) (new none : A) → actor < length xs → cpu ≡ actor ⊎ cpu ≢ actor
     → slice_index_or (slice_set xs actor new) cpu none ≡ (if actor == cpu then new else slice_index_or xs cpu none)
 set_told xs actor cpu new none low h = search (get_or-set_same, get_or-set_other, eq-eqb, ne_eqb, arith)
 
@@ -411,13 +411,13 @@ enter_told views works enters answers cpu number s t below r h e =
     (keeps_same m (with_inside cpu (Some number) m) refl))
 
 -- What an event that completes a stop finds, and what it makes.
-record Completes (s t : StateValue) (cpu : ℕ) (answer : ℤ) : Type 0 where
-  number : ℕ
-  low : number < 64
-  inside : (cpu_at s cpu).inside ≡ Some number
-  made : with_inside cpu None (with_stop number s (record (stop_at s number) { answers = slice_set (stop_at s number).answers cpu (Some answer) })) ≡ t
+pub record Completes (s t : StateValue) (cpu : ℕ) (answer : ℤ) : Type 0 where
+  pub number : ℕ
+  pub low : number < 64
+  pub inside : (cpu_at s cpu).inside ≡ Some number
+  pub made : with_inside cpu None (with_stop number s (record (stop_at s number) { answers = slice_set (stop_at s number).answers cpu (Some answer) })) ≡ t
 
-complete_is : (cpu : ℕ) (answer : ℤ) (s t : StateValue) → complete_by cpu answer s ≡ Ok t → Completes s t cpu answer
+pub complete_is : (cpu : ℕ) (answer : ℤ) (s t : StateValue) → complete_by cpu answer s ≡ Ok t → Completes s t cpu answer
 unfolding complete_by
 complete_is cpu answer s t e =
     let made = λ (number : ℕ). completed cpu answer (cpu_at s cpu).irq (stop_at s number) in
@@ -435,12 +435,12 @@ complete_is cpu answer s t e =
     }
 
 -- whose answer it is, and of which stop
-here_told : (number : ℕ) (inside : Option ℕ) (mine : Bool) (new old : Option ℤ) → (mine ≡ true → inside ≡ Some number)
+pub here_told : {A : Type 0} (number : ℕ) (inside : Option ℕ) (mine : Bool) (new old : A) → (mine ≡ true → inside ≡ Some number)
     → (if mine then new else old) ≡ (if mine && is_in inside number then new else old)
 here_told number inside true new old is = let t : (number == number) ≡ true = eq-eqb number number refl in rw (is refl, t) refl
 here_told number inside false new old is = refl
 
-other_told : (number other : ℕ) (inside : Option ℕ) (mine : Bool) (new old : Option ℤ) → other ≢ number → (mine ≡ true → inside ≡ Some number)
+pub other_told : {A : Type 0} (number other : ℕ) (inside : Option ℕ) (mine : Bool) (new old : A) → other ≢ number → (mine ≡ true → inside ≡ Some number)
     → old ≡ (if mine && is_in inside other then new else old)
 other_told number other inside true new old ne is =
     let t : (number == other) ≡ false = ne_eqb number other (λ e. ne (sym e)) in rw (is refl, t) refl
