@@ -7,4 +7,6 @@ pub mod AtRun
 pub mod OpenStops
 pub mod StopResults
 pub mod OpenedWorks
-pub mod GoneByPhases
+pub mod ToldPhases
+pub mod PhasesInTurn
+pub mod Completes

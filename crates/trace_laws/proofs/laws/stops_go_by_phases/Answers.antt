@@ -1,5 +1,6 @@
-use Rattle.trace_laws.proofs.Stops.GoneByPhases.{acks_are_in_turn, completes_are_through, offs_are_at_prepare, ons_are_at_exit, raises_are_in_turn}
+use Rattle.trace_laws.proofs.Stops.Completes.{completes_are_through}
 use Rattle.trace_laws.proofs.Stops.OpenedWorks.{works_are_of_online}
+use Rattle.trace_laws.proofs.Stops.PhasesInTurn.{acks_are_in_turn, offs_are_at_prepare, ons_are_at_exit, raises_are_in_turn}
 use Rattle.trace_laws.proofs.laws.stops_go_by_phases.Goals as goal
 
 pub returns-clause-works : goal.returns-clause-works

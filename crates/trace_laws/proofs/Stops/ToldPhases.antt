@@ -1,23 +1,21 @@
--- The events tell which phase each CPU acknowledged last in each stop, and which was raised last: CPUs acknowledge, raise and complete in turn.
+-- The events tell which phase each CPU acknowledged last in each stop, and which was raised last.
 use Rattle.trace_laws.proofs.Names.{APatch, Bool, Err, Event, IsTrace, Key, Kind, LabelEvent, LabelWords, List, Multi, None, Ok, One, Option, Patch, Place}
 use Rattle.trace_laws.proofs.Names.{Reason, Result, Runs, Seen, Setting, Site, Some, StateValue, Stop, StopEvent, Task, [], ack_by, acked, acked_by}
-use Rattle.trace_laws.proofs.Names.{acknowledged, acks_as, acks_at_run, acks_disabled, answer_wanted, ap, arith, at_last, at_phase, cases_eq}
-use Rattle.trace_laws.proofs.Names.{cases_lt, closed, collect_by, collected, collected_with, complete_by, completed, cpu_at, enter_by, eq-eqb, eqb-true, false}
-use Rattle.trace_laws.proofs.Names.{gate_by, gate_with, get_or-replicate, get_or-set_same, goes, handles_nothing, has, has_run}
-use Rattle.trace_laws.proofs.Names.{if◌then◌else◌, in_patch, in_round, inl, inr, inside_goes, int_eq, is_some, is_store, key_by, label_goes, late, length}
-use Rattle.trace_laws.proofs.Names.{length-set, made_store, may_ack, may_complete, may_off, nat_lt, ne_eqb, next_store, not, off_by, on_by, on_stop}
-use Rattle.trace_laws.proofs.Names.{open_by, patch_by, patch_left, popped, raise_by, raised, raised_by, refl, run_by, seen, set_past, site_by}
-use Rattle.trace_laws.proofs.Names.{site_word, slice_index_or, slice_set, stop_at, stop_goes, stop_of, subst, switched, switched_on, sym, through, to_be}
-use Rattle.trace_laws.proofs.Names.{true, unfinished, ungate_by, unseen, with_acked, with_inside, with_irq, with_patch, with_stop, with_word, work, ℕ, ℤ}
-use Rattle.trace_laws.proofs.Names.{◌&&◌, ◌++◌, ◌+◌, ◌-◌, ◌<◌, ◌==◌, ◌>>=◌, ◌∙◌, ◌∷◌, ◌≡◌, ◌≢◌, ◌≤◌, ◌⊎◌}
+use Rattle.trace_laws.proofs.Names.{acknowledged, acks_as, acks_at_run, acks_disabled, ap, arith, at_last, at_phase, cases_eq, cases_lt, closed, collect_by}
+use Rattle.trace_laws.proofs.Names.{collected, collected_with, complete_by, cpu_at, enter_by, eq-eqb, eqb-true, false, gate_by, gate_with, get_or-replicate}
+use Rattle.trace_laws.proofs.Names.{get_or-set_same, goes, has, has_run, if◌then◌else◌, in_patch, in_round, inl, inr, inside_goes, is_some, is_store, key_by}
+use Rattle.trace_laws.proofs.Names.{label_goes, late, length, length-set, made_store, may_ack, nat_lt, ne_eqb, next_store, not, on_stop, open_by, patch_by}
+use Rattle.trace_laws.proofs.Names.{patch_left, popped, raise_by, raised, raised_by, refl, run_by, seen, set_past, site_by, site_word, slice_index_or}
+use Rattle.trace_laws.proofs.Names.{slice_set, stop_at, stop_goes, subst, switched, switched_on, sym, to_be, true, unfinished, ungate_by, unseen, with_acked}
+use Rattle.trace_laws.proofs.Names.{with_inside, with_irq, with_patch, with_stop, with_word, work, ℕ, ℤ, ◌&&◌, ◌++◌, ◌-◌, ◌<◌, ◌==◌, ◌>>=◌, ◌∙◌, ◌∷◌, ◌≡◌, ◌≢◌}
+use Rattle.trace_laws.proofs.Names.{◌≤◌, ◌⊎◌}
 use Rattle.std.proofs.lemmas.Bool.{and_from}
-use Rattle.std.proofs.lemmas.Bool.Decides.{Decides-int_eq}
 use Rattle.trace_model.specs.declared.event.Event.TheVariants as event
 use Rattle.trace_model.specs.declared.event.LabelEvent.TheVariants as labels
 use Rattle.trace_model.specs.declared.event.StopEvent.TheVariants as stops
 use Rattle.trace_model.specs.declared.reason.Reason.TheVariants as reason
-use Rattle.trace_model.specs.{Opened.opening as at_first, Stop.answer_by, Stop.first_phase, Stop.opening as first_stop}
-use Rattle.trace_laws.proofs.Calls.MadeSteps.{both_made, failed, low_event, passed}
+use Rattle.trace_model.specs.{Opened.opening as at_first, Stop.first_phase, Stop.opening as first_stop}
+use Rattle.trace_laws.proofs.Calls.MadeSteps.{both_made, low_event, passed}
 use Rattle.trace_laws.proofs.Labels.LawfulLabels.{off_is, on_is}
 use Rattle.trace_laws.proofs.Labels.PatchPhases.{may_is}
 use Rattle.trace_laws.proofs.Stops.AtRun.{rounds_at_first, rounds_goes, rounds_of, runs_last, seen_all, setting_at_first, setting_runs, stop_at_first, work_all}
@@ -26,15 +24,14 @@ use Rattle.trace_laws.proofs.Stops.Ends.{collected_is, run_is}
 use Rattle.trace_laws.proofs.Stops.OpenStops.{gate_is, open_is, ungate_is}
 use Rattle.trace_laws.proofs.Stops.Phases.{AckFrom, from_tests, in_patch_is}
 use Rattle.trace_laws.proofs.Stops.QuietCpus.{call_keeps_rounds}
-use Rattle.trace_laws.proofs.Stops.StopEvents.{InRound, actor_below, acts_at, in_round_is, stop_of_is, through_is}
+use Rattle.trace_laws.proofs.Stops.StopEvents.{InRound, actor_below, acts_at, in_round_is}
 use Rattle.trace_laws.proofs.Stops.StopResults.{complete_is, enter_is, here_told, other_told, set_told}
-use Rattle.smp_words.specs.declared.phase.TheConstants.{DISABLE_IRQ, RUN, EXIT, OVER}
-use Rattle.trace_laws.specs.Phases.{AcksAreInTurn, CompletesAreThrough, HasDone, IsThrough, MayAck, MayComplete, MayRaise, MaySwitch, OffsAreAtPrepare}
-use Rattle.trace_laws.specs.Phases.{OnsAreAtExit, RaisesAreInTurn, Turn, acked_from, acked_in, acked_last, acked_next, turn, turn_from, turn_next, turned_to}
+use Rattle.smp_words.specs.declared.phase.TheConstants.{DISABLE_IRQ, RUN, OVER}
+use Rattle.trace_laws.specs.Phases.{Turn, acked_from, acked_in, acked_last, acked_next, turn, turn_from, turn_next, turned_to}
 use Rattle.trace_laws.specs.StopResults.{is_in}
 
 -- the patch of a stop, but of one that makes a patch
-abbrev unless_patch : Kind → Option Patch → Option Patch
+abbrev pub unless_patch : Kind → Option Patch → Option Patch
 unless_patch APatch patch = None
 unless_patch _ patch = patch
 
@@ -43,21 +40,21 @@ abbrev told_of : Stop → List ℕ × (Option ℕ × (ℕ × (Kind × Option Pat
 told_of stop = (stop.acked, (stop.raiser, (stop.phase, (stop.task.kind, unless_patch stop.task.kind stop.patch))))
 
 -- Who is to raise the next phase of a stop was the last to acknowledge this one.
-record IsRaiser (turn : Turn) (stop : Stop) (cpu : ℕ) : Type 0 where
-  acked : acked_by stop cpu ≡ stop.phase
-  some : 1 ≤ stop.phase
-  last : turn.last ≡ Some cpu
+pub record IsRaiser (turn : Turn) (stop : Stop) (cpu : ℕ) : Type 0 where
+  pub acked : acked_by stop cpu ≡ stop.phase
+  pub some : 1 ≤ stop.phase
+  pub last : turn.last ≡ Some cpu
 
 -- The events tell of a stop which phase each CPU acknowledged last, and which was raised last. Only a stop that makes a patch has one.
-record StopTold (left_out : Bool) (acks : ℕ → ℕ) (turn : Turn) (stop : Stop) : Type 0 where
-  acks_are : (cpu : ℕ) → cpu < 32 → acked_by stop cpu ≡ acks cpu
-  phase_is : left_out ≡ false → is_round stop.task.kind ≡ true → turn.phase ≡ stop.phase
-  raiser_is : (cpu : ℕ) → stop.raiser ≡ Some cpu → IsRaiser turn stop cpu
-  unpatched : unless_patch stop.task.kind stop.patch ≡ None
+pub record StopTold (left_out : Bool) (acks : ℕ → ℕ) (turn : Turn) (stop : Stop) : Type 0 where
+  pub acks_are : (cpu : ℕ) → cpu < 32 → acked_by stop cpu ≡ acks cpu
+  pub phase_is : left_out ≡ false → is_round stop.task.kind ≡ true → turn.phase ≡ stop.phase
+  pub raiser_is : (cpu : ℕ) → stop.raiser ≡ Some cpu → IsRaiser turn stop cpu
+  pub unpatched : unless_patch stop.task.kind stop.patch ≡ None
 
 -- They tell it of each stop.
-record Told (acks : ℕ → ℕ → ℕ) (turns : ℕ → Turn) (s : StateValue) : Type 0 where
-  each : (number : ℕ) → number < 64 → StopTold s.setting.without.raises (acks number) (turns number) (stop_at s number)
+pub record Told (acks : ℕ → ℕ → ℕ) (turns : ℕ → Turn) (s : StateValue) : Type 0 where
+  pub each : (number : ℕ) → number < 64 → StopTold s.setting.without.raises (acks number) (turns number) (stop_at s number)
 
 stop_told : (left_out : Bool) (acks : ℕ → ℕ) (turn : Turn) (a b : Stop) → told_of b ≡ told_of a → StopTold left_out acks turn a
     → StopTold left_out acks turn b
@@ -77,9 +74,9 @@ stop_told left_out acks turn a b same h =
     }
 
 -- That of each stop is as it was.
-record Keeps (s t : StateValue) : Type 0 where
-  setting_is : t.setting ≡ s.setting
-  same : (number : ℕ) → told_of (stop_at t number) ≡ told_of (stop_at s number)
+pub record Keeps (s t : StateValue) : Type 0 where
+  pub setting_is : t.setting ≡ s.setting
+  pub same : (number : ℕ) → told_of (stop_at t number) ≡ told_of (stop_at s number)
 
 keeps_end : (s t u : StateValue) → t ≡ u → Keeps s t → Keeps s u
 keeps_end s t u same k = subst (λ (x : StateValue). Keeps s x) same k
@@ -328,19 +325,19 @@ keeps_may_ack cpu number phase s t e =
     keeps_end s (with_stop number s to) t (sym k.is) (keeps_put number s to same)
 
 -- What an event that acknowledges a phase finds, and what it makes.
-record Acks (views : ℕ → Seen) (works : ℕ → Option Task) (s t : StateValue) (cpu phase : ℕ) : Type 0 where
-  number : ℕ
-  here : InRound s cpu number
-  more : acked_by (stop_at s number) cpu < phase
-  at : (stop_at s number).phase ≡ phase
-  disabled : phase ≡ DISABLE_IRQ → acks_disabled s.setting.without.switches cpu s ≡ Ok tt
-  ran : phase ≡ RUN → (stop_at s number).task.kind ≡ Multi → has (stop_at s number).task.active cpu ≡ true → has_run (stop_at s number) cpu ≡ true
-  mid : StateValue
-  from : AckFrom views works s mid number
-  keeps : Keeps s mid
-  made : acked cpu number phase mid ≡ t
+pub record Acks (views : ℕ → Seen) (works : ℕ → Option Task) (s t : StateValue) (cpu phase : ℕ) : Type 0 where
+  pub number : ℕ
+  pub here : InRound s cpu number
+  pub more : acked_by (stop_at s number) cpu < phase
+  pub at : (stop_at s number).phase ≡ phase
+  pub disabled : phase ≡ DISABLE_IRQ → acks_disabled s.setting.without.switches cpu s ≡ Ok tt
+  pub ran : phase ≡ RUN → (stop_at s number).task.kind ≡ Multi → has (stop_at s number).task.active cpu ≡ true → has_run (stop_at s number) cpu ≡ true
+  pub mid : StateValue
+  pub from : AckFrom views works s mid number
+  pub keeps : Keeps s mid
+  pub made : acked cpu number phase mid ≡ t
 
-ack_is : (views : ℕ → Seen) (works : ℕ → Option Task) (s t : StateValue) (cpu phase : ℕ) → Rounds views works s → ack_by cpu phase s ≡ Ok t
+pub ack_is : (views : ℕ → Seen) (works : ℕ → Option Task) (s t : StateValue) (cpu phase : ℕ) → Rounds views works s → ack_by cpu phase s ≡ Ok t
     → Acks views works s t cpu phase
 unfolding ack_by
 ack_is views works s t cpu phase r e =
@@ -420,14 +417,14 @@ raised_so (Some last) cpu phase stop to e =
     (ap (λ n. Some n) (eqb-true last cpu p.0), cc)
 
 -- What an event that raises a phase finds, and what it makes.
-record Raises (s t : StateValue) (cpu phase : ℕ) : Type 0 where
-  number : ℕ
-  here : InRound s cpu number
-  raiser : (stop_at s number).raiser ≡ Some cpu
-  at : (stop_at s number).phase ≡ phase - 1
-  made : switched_on cpu phase (with_stop number s (record (stop_at s number) { phase = phase; raiser = None })) ≡ t
+pub record Raises (s t : StateValue) (cpu phase : ℕ) : Type 0 where
+  pub number : ℕ
+  pub here : InRound s cpu number
+  pub raiser : (stop_at s number).raiser ≡ Some cpu
+  pub at : (stop_at s number).phase ≡ phase - 1
+  pub made : switched_on cpu phase (with_stop number s (record (stop_at s number) { phase = phase; raiser = None })) ≡ t
 
-raise_is : (s t : StateValue) (cpu phase : ℕ) → raise_by cpu phase s ≡ Ok t → Raises s t cpu phase
+pub raise_is : (s t : StateValue) (cpu phase : ℕ) → raise_by cpu phase s ≡ Ok t → Raises s t cpu phase
 unfolding raise_by raised
 raise_is s t cpu phase e =
     let made = λ (number : ℕ). let stop = stop_at s number in
@@ -533,13 +530,13 @@ told_at_first u words = record {
 }
 
 -- What a trace tells of the state that it leads to.
-record TraceTold (u : Setting) (es : List (ℕ × Event)) (s : StateValue) : Type 0 where
-  rounds : Rounds (λ cpu. seen cpu es) (λ number. work number es) s
-  told : Told (λ number cpu. acked_in number cpu es) (λ number. turn number es) s
-  setting_is : s.setting ≡ u
+pub record TraceTold (u : Setting) (es : List (ℕ × Event)) (s : StateValue) : Type 0 where
+  pub rounds : Rounds (λ cpu. seen cpu es) (λ number. work number es) s
+  pub told : Told (λ number cpu. acked_in number cpu es) (λ number. turn number es) s
+  pub setting_is : s.setting ≡ u
 
 -- an event of stops that ends a trace, at the state before it
-told_before : (u : Setting) (words : LabelWords) (es : List (ℕ × Event)) (t : StateValue) (cpu : ℕ) (e : StopEvent)
+pub told_before : (u : Setting) (words : LabelWords) (es : List (ℕ × Event)) (t : StateValue) (cpu : ℕ) (e : StopEvent)
     → IsTrace u words (es ++ (cpu, event.Stop e) ∷ []) t → (s : StateValue) × (TraceTold u es s × (stop_goes cpu e s ≡ Ok t))
 told_before u words es t cpu e run =
     let m = runs_last es (cpu, event.Stop e) (at_first u words) t run in
@@ -557,15 +554,15 @@ told_before u words es t cpu e run =
     )
 
 -- What the events tell of a CPU in a stop.
-record Here (u : Setting) (es : List (ℕ × Event)) (s : StateValue) (number cpu : ℕ) : Type 0 where
-  inside : (seen cpu es).inside ≡ Some number
-  opened : work number es ≡ Some (stop_at s number).task
-  member : has (stop_at s number).task.mask cpu ≡ true
-  acks : (member : ℕ) → member < 32 → acked_by (stop_at s number) member ≡ acked_in number member es
-  ran : has_run (stop_at s number) cpu ≡ (seen cpu es).ran
-  irq : u.without.switches ≡ false → (cpu_at s cpu).irq ≡ (seen cpu es).irq
+pub record Here (u : Setting) (es : List (ℕ × Event)) (s : StateValue) (number cpu : ℕ) : Type 0 where
+  pub inside : (seen cpu es).inside ≡ Some number
+  pub opened : work number es ≡ Some (stop_at s number).task
+  pub member : has (stop_at s number).task.mask cpu ≡ true
+  pub acks : (member : ℕ) → member < 32 → acked_by (stop_at s number) member ≡ acked_in number member es
+  pub ran : has_run (stop_at s number) cpu ≡ (seen cpu es).ran
+  pub irq : u.without.switches ≡ false → (cpu_at s cpu).irq ≡ (seen cpu es).irq
 
-here_is : (u : Setting) (es : List (ℕ × Event)) (s : StateValue) (number cpu : ℕ) → TraceTold u es s → number < 64 → cpu < 32
+pub here_is : (u : Setting) (es : List (ℕ × Event)) (s : StateValue) (number cpu : ℕ) → TraceTold u es s → number < 64 → cpu < 32
     → (cpu_at s cpu).inside ≡ Some number → Here u es s number cpu
 here_is u es s number cpu h low below is =
     let q = h.rounds.cpu cpu below in
@@ -579,226 +576,3 @@ here_is u es s number cpu h low below is =
       ran = w.ran_is is;
       irq = λ told. q.irq_is (ap (λ x. x.without.switches) h.setting_is ∙ told);
     }
-
-no_round : (kind : Kind) → is_round kind ≡ true → kind ≢ One
-no_round kind round one = search arith
-
--- each CPU of the mask has acknowledged the phase before that which the stop is at
-reached : (views : ℕ → Seen) (works : ℕ → Option Task) (s : StateValue) (number member phase : ℕ) → Rounds views works s → number < 64
-    → is_round (stop_at s number).task.kind ≡ true → (stop_at s number).phase ≡ phase → member < 32 → has (stop_at s number).task.mask member ≡ true
-    → phase ≤ acked_by (stop_at s number) member + 1
-reached views works s number member phase r low round at below in_mask = elim (cases_lt phase 2) [
-  | inl early ↦ omega arith
-  | inr late ↦ (let a = (r.at number low member below).all round in_mask (omega arith) in omega arith)
-]
-
--- interrupts are off, where switches are told
-disabled_so : (switches : Bool) (cpu : ℕ) (s : StateValue) → acks_disabled switches cpu s ≡ Ok tt → switches ≡ false → (cpu_at s cpu).irq ≡ false
-disabled_so switches cpu s e told = search arith
-
--- an event that acknowledges a phase finds what the events tell
-may_ack_it : (u : Setting) (es : List (ℕ × Event)) (cpu phase : ℕ) (s t : StateValue) → TraceTold u es s → stop_goes cpu (stops.Ack phase) s ≡ Ok t
-    → MayAck u es cpu phase
-unfolding stop_goes inside_goes
-may_ack_it u es cpu phase s t h e =
-    let low = low_event cpu _ t e in
-    let a = ack_is (λ c. seen c es) (λ n. work n es) s t cpu phase h.rounds low.1 in
-    let number = a.number in
-    let stop = stop_at s number in
-    let i = here_is u es s number cpu h a.here.low low.0 a.here.inside in
-    let up = λ (member : ℕ) (below : member < 32) (m : has stop.task.mask member ≡ true).
-    reached (λ c. seen c es) (λ n. work n es) s number member phase h.rounds a.here.low a.here.round a.at below m in
-    record {
-      number = number;
-      task = stop.task;
-      inside = i.inside;
-      opened = i.opened;
-      round = no_round stop.task.kind a.here.round;
-      next = let x = up cpu low.0 i.member in let y = i.acks cpu low.0 in let z = a.more in omega arith;
-      all = λ member below m. let x = up member below m in let y = i.acks member below in omega arith;
-      raised = λ told. (h.told.each number a.here.low).phase_is (ap (λ x. x.without.raises) h.setting_is ∙ told) a.here.round ∙ a.at;
-      disabled = λ two told.
-          let off = disabled_so s.setting.without.switches cpu s (a.disabled two) (ap (λ x. x.without.switches) h.setting_is ∙ told) in
-          sym (i.irq told) ∙ off;
-      ran = λ three kind active. sym i.ran ∙ a.ran three kind active;
-    }
-
-pub acks_are_in_turn : AcksAreInTurn
-acks_are_in_turn u words es t cpu phase run =
-    let b = told_before u words es t cpu (stops.Ack phase) run in may_ack_it u es cpu phase b.0 t b.1.0 b.1.1
-
--- raises are told where one is to raise
-are_told : (left_out : Bool) (raiser : Option ℕ) (cpu : ℕ) → (left_out ≡ true → raiser ≡ None) → raiser ≡ Some cpu → left_out ≡ false
-are_told left_out raiser cpu nobody is = search arith
-
--- and so does one that raises a phase
-may_raise_it : (u : Setting) (es : List (ℕ × Event)) (cpu phase : ℕ) (s t : StateValue) → TraceTold u es s → stop_goes cpu (stops.Raise phase) s ≡ Ok t
-    → MayRaise es cpu phase
-unfolding stop_goes inside_goes
-may_raise_it u es cpu phase s t h e =
-    let low = low_event cpu _ t e in
-    let a = raise_is s t cpu phase low.1 in
-    let number = a.number in
-    let stop = stop_at s number in
-    let i = here_is u es s number cpu h a.here.low low.0 a.here.inside in
-    let told = h.told.each number a.here.low in
-    let mine = told.raiser_is cpu a.raiser in
-    let w = h.rounds.at number a.here.low cpu low.0 in
-    let some : is_some stop.raiser ≡ true = rw a.raiser refl in
-    let at : stop.phase ≡ phase - 1 = a.at in
-    record {
-      number = number;
-      task = stop.task;
-      inside = i.inside;
-      opened = i.opened;
-      round = no_round stop.task.kind a.here.round;
-      next = let x = i.acks cpu low.0 in omega (arith, mine.acked, mine.some);
-      all = λ member below m. let x = i.acks member below in let y = (h.rounds.at number a.here.low member below).last some m in omega arith;
-      once = let x = told.phase_is (are_told s.setting.without.raises stop.raiser cpu w.nobody a.raiser) a.here.round in omega (arith, mine.some);
-      last = mine.last;
-    }
-
-pub raises_are_in_turn : RaisesAreInTurn
-raises_are_in_turn u words es t cpu phase run =
-    let b = told_before u words es t cpu (stops.Raise phase) run in may_raise_it u es cpu phase b.0 t b.1.0 b.1.1
-
--- What a CPU that completes has shown.
-record Done (stop : Stop) (cpu : ℕ) (answer : ℤ) (irq : Bool) : Type 0 where
-  may : may_complete stop.task.kind cpu irq stop ≡ Ok tt
-  given : has_run stop cpu ≡ false → answer ≡ answer_wanted stop cpu
-
-given_so : (ran same : Bool) → (not ran && not same) ≡ false → ran ≡ false → same ≡ true
-given_so ran same e idle = search arith
-
-done_is : (stop to : Stop) (cpu : ℕ) (answer : ℤ) (irq : Bool) → completed cpu answer irq stop ≡ Ok to → Done stop cpu answer irq
-unfolding completed
-done_is stop to cpu answer irq e =
-    let new = record stop { answers = slice_set stop.answers cpu (Some answer) } in
-    let same = int_eq answer (answer_wanted stop cpu) in
-    let test = not (has_run stop cpu) && not same in
-    let m = both_made (may_complete stop.task.kind cpu irq stop) (λ u. if test then Err (reason.AnswerIs (answer_wanted stop cpu)) else Ok new) to e in
-    let p = failed test (Ok new) (reason.AnswerIs (answer_wanted stop cpu)) to m.1.1 in
-    record { may = m.1.0; given = λ idle. (Decides-int_eq answer (answer_wanted stop cpu)).0 (given_so (has_run stop cpu) same p.0 idle) }
-
--- What an event that completes finds.
-record DoneAt (s : StateValue) (cpu : ℕ) (answer : ℤ) : Type 0 where
-  number : ℕ
-  low : number < 64
-  inside : (cpu_at s cpu).inside ≡ Some number
-  done : Done (stop_at s number) cpu answer (cpu_at s cpu).irq
-
-done_at : (s t : StateValue) (cpu : ℕ) (answer : ℤ) → complete_by cpu answer s ≡ Ok t → DoneAt s cpu answer
-unfolding complete_by
-done_at s t cpu answer e =
-    let made = λ (number : ℕ). completed cpu answer (cpu_at s cpu).irq (stop_at s number) in
-    let m = both_made (stop_of cpu s) (λ number. on_stop number s (made number) >>= λ x. Ok (with_inside cpu None x)) t e in
-    let o = stop_of_is s cpu m.0 m.1.0 in
-    let n = both_made (on_stop m.0 s (made m.0)) (λ x. Ok (with_inside cpu None x)) t m.1.1 in
-    let k = both_made (made m.0) (λ x. Ok (with_stop m.0 s x)) n.0 n.1.0 in
-    record { number = m.0; low = o.1; inside = o.0; done = done_is (stop_at s m.0) k.0 cpu answer (cpu_at s cpu).irq k.1.0 }
-
-through_so : (irq : Bool) (cpu : ℕ) (stop : Stop) (u : Unit {0}) → (through stop cpu >>= λ v. if irq then Ok tt else Err reason.InterruptsOff) ≡ Ok u
-    → (EXIT ≤ acked_by stop cpu) × (irq ≡ true)
-through_so irq cpu stop u e =
-    let rest : Result (Unit {0}) Reason = if irq then Ok tt else Err reason.InterruptsOff in
-    let m = both_made (through stop cpu) (λ v. rest) u e in
-    let p = passed irq (Ok tt) reason.InterruptsOff u m.1.1 in
-    (through_is stop cpu m.0 m.1.0, p.0)
-
-is_through : (u : Setting) (es : List (ℕ × Event)) (s : StateValue) (number cpu : ℕ) → cpu < 32 → Here u es s number cpu
-    → EXIT ≤ acked_by (stop_at s number) cpu → (cpu_at s cpu).irq ≡ true → IsThrough u es number cpu
-is_through u es s number cpu below i past on = record {
-  acked = let x = i.acks cpu below in omega arith;
-  irq = λ told. sym (i.irq told) ∙ on;
-}
-
-has_done : (kind : Kind) (u : Setting) (es : List (ℕ × Event)) (s : StateValue) (number cpu : ℕ) → cpu < 32 → Here u es s number cpu
-    → may_complete kind cpu (cpu_at s cpu).irq (stop_at s number) ≡ Ok tt → HasDone kind u es number cpu
-has_done One u es s number cpu below i e = sym i.ran ∙ (passed (has_run (stop_at s number) cpu) (Ok tt) reason.FunctionHasNotRun tt e).0
-has_done Multi u es s number cpu below i e =
-    let x = through_so (cpu_at s cpu).irq cpu (stop_at s number) tt e in is_through u es s number cpu below i x.0 x.1
-has_done APatch u es s number cpu below i e =
-    let x = through_so (cpu_at s cpu).irq cpu (stop_at s number) tt e in is_through u es s number cpu below i x.0 x.1
-
--- a stop that makes no patch has none
-patch_none : (kind : Kind) (patch : Option Patch) → unless_patch kind patch ≡ None → kind ≢ APatch → patch ≡ None
-patch_none kind patch none ne = search arith
-
-may_complete_it : (u : Setting) (es : List (ℕ × Event)) (cpu : ℕ) (answer : ℤ) (s t : StateValue) → TraceTold u es s
-    → stop_goes cpu (stops.Complete answer) s ≡ Ok t → MayComplete u es cpu answer
-unfolding stop_goes inside_goes
-may_complete_it u es cpu answer s t h e =
-    let low = low_event cpu _ t e in
-    let a = done_at s t cpu answer low.1 in
-    let number = a.number in
-    let stop = stop_at s number in
-    let i = here_is u es s number cpu h a.low low.0 a.inside in
-    record {
-      number = number;
-      task = stop.task;
-      inside = i.inside;
-      opened = i.opened;
-      done = has_done stop.task.kind u es s number cpu low.0 i a.done.may;
-      zero = λ ne idle.
-          let none = patch_none stop.task.kind stop.patch (h.told.each number a.low).unpatched ne in
-          a.done.given (i.ran ∙ idle) ∙ ap (λ p. answer_by p (has stop.task.active cpu)) none;
-    }
-
-pub completes_are_through : CompletesAreThrough
-completes_are_through u words es t cpu answer run =
-    let b = told_before u words es t cpu (stops.Complete answer) run in may_complete_it u es cpu answer b.0 t b.1.0 b.1.1
-
--- an event that turns interrupts off finds DISABLE_IRQ
-off_it : (u : Setting) (es : List (ℕ × Event)) (cpu : ℕ) (s t : StateValue) → TraceTold u es s → stop_goes cpu stops.Off s ≡ Ok t
-    → MaySwitch es cpu (λ phase. phase ≡ 1)
-unfolding stop_goes inside_goes off_by
-off_it u es cpu s t h e =
-    let low = low_event cpu _ t e in
-    let m = both_made (in_round cpu s) (λ number. may_off cpu number s >>= λ x. Ok (with_irq cpu false s)) t low.1 in
-    let number = m.0 in
-    let stop = stop_at s number in
-    let here = in_round_is s cpu number m.1.0 in
-    let n = both_made (may_off cpu number s) (λ x. Ok (with_irq cpu false s)) t m.1.1 in
-    let p = passed (cpu_at s cpu).irq (at_phase stop cpu DISABLE_IRQ >>= λ x. handles_nothing (cpu_at s cpu)) reason.InterruptsOff n.0 n.1.0 in
-    let k = both_made (at_phase stop cpu DISABLE_IRQ) (λ x. handles_nothing (cpu_at s cpu)) n.0 p.1 in
-    let a = acts_at stop cpu DISABLE_IRQ k.0 k.1.0 in
-    let i = here_is u es s number cpu h here.low low.0 here.inside in
-    let up = reached (λ c. seen c es) (λ n. work n es) s number cpu DISABLE_IRQ h.rounds here.low here.round a.1 low.0 i.member in
-    record {
-      number = number;
-      task = stop.task;
-      inside = i.inside;
-      opened = i.opened;
-      round = no_round stop.task.kind here.round;
-      at = let x = i.acks cpu low.0 in omega (arith, a.0);
-    }
-
-pub offs_are_at_prepare : OffsAreAtPrepare
-offs_are_at_prepare u words es t cpu run = let b = told_before u words es t cpu stops.Off run in off_it u es cpu b.0 t b.1.0 b.1.1
-
--- and one that turns them on finds EXIT acknowledged
-on_it : (u : Setting) (es : List (ℕ × Event)) (cpu : ℕ) (s t : StateValue) → TraceTold u es s → stop_goes cpu stops.On s ≡ Ok t
-    → MaySwitch es cpu (λ phase. 4 ≤ phase)
-unfolding stop_goes inside_goes on_by
-on_it u es cpu s t h e =
-    let low = low_event cpu _ t e in
-    let next = λ (number : ℕ). through (stop_at s number) cpu >>= λ x. Ok (with_irq cpu true s) in
-    let m = both_made (in_round cpu s) (λ number. if (cpu_at s cpu).irq then Err reason.InterruptsOn else next number) t low.1 in
-    let number = m.0 in
-    let stop = stop_at s number in
-    let here = in_round_is s cpu number m.1.0 in
-    let p = failed (cpu_at s cpu).irq (next number) reason.InterruptsOn t m.1.1 in
-    let n = both_made (through stop cpu) (λ x. Ok (with_irq cpu true s)) t p.1 in
-    let past = through_is stop cpu n.0 n.1.0 in
-    let i = here_is u es s number cpu h here.low low.0 here.inside in
-    record {
-      number = number;
-      task = stop.task;
-      inside = i.inside;
-      opened = i.opened;
-      round = no_round stop.task.kind here.round;
-      at = let x = i.acks cpu low.0 in omega arith;
-    }
-
-pub ons_are_at_exit : OnsAreAtExit
-ons_are_at_exit u words es t cpu run = let b = told_before u words es t cpu stops.On run in on_it u es cpu b.0 t b.1.0 b.1.1
